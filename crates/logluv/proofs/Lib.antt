@@ -1,0 +1,4 @@
+pub mod Laws
+pub mod Expand
+pub mod Steps
+pub mod Index
