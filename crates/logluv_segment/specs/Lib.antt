@@ -1,0 +1,2 @@
+pub mod Luv
+pub mod Fee
