@@ -1,0 +1,2 @@
+pub mod Float64
+pub mod Steps
