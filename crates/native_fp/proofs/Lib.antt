@@ -1,0 +1,5 @@
+pub mod Sizes
+pub mod Summing
+pub mod Gathering
+pub mod RowByRow
+pub mod Index
