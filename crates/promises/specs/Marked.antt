@@ -1,0 +1,48 @@
+-- The marked cases of document 01 as one list: what the definitions give, beside what the document says.
+use Prim.Native.Nat.{ℕ, _*_}
+use mathlib.Core.Bool.{true}
+use mathlib.Core.List.{List, [], _∷_, _++_}
+use lib.ListN.{length, take, drop, replicate}
+use Rattle.checks.specs.Numbers.{numberOf}
+use Rattle.checks.specs.Checks.{verdict}
+use Rattle.logluv.specs.Packets.{lenOf, rangeChecks, expand}
+use Rattle.logluv_segment.specs.Luv.{uv, pixels}
+use Rattle.logluv_segment.specs.Fee.{fee}
+use Rattle.float64.specs.Float64.{samples}
+use Rattle.native_fp.specs.NativeFp.{gathered}
+
+pub record Case : Type 0 where
+  pub number : ℕ
+  pub gives : List ℕ
+  pub says : List ℕ
+
+abbrev case : ℕ → List ℕ → List ℕ → Case
+case n x y = record { number = n; gives = x; says = y }
+
+-- the refusal number of packets that are to fill so many bytes at block width 2; 0: accepted
+abbrev answer : ℕ → List ℕ → ℕ
+answer needed packets = numberOf (verdict (rangeChecks packets 0 (length packets) 2 needed))
+
+-- one row at block width 2: the answer, the pixels, the fee
+abbrev shown : List ℕ → List ℕ
+shown packets = (answer 8 packets ∷ []) ++ (pixels 2 1 (expand packets 0) ++ (fee (length packets) (2 * 1) ∷ []))
+
+abbrev first : List ℕ
+first = 0x80 ∷ 0x07 ∷ 0x80 ∷ 0x01 ∷ 0x80 ∷ 0x02 ∷ 0x80 ∷ 0x03 ∷ []
+
+abbrev onePixel : List ℕ
+onePixel = 0x01 ∷ 0x07 ∷ 0xC7 ∷ 0x00 ∷ 0x17 ∷ 0x01 ∷ []
+
+unfoldable pub cases : List Case
+cases =
+    case 1 (shown first) ((0 ∷ []) ++ (onePixel ++ (onePixel ++ (49 ∷ []))))
+    ∷ case 2 (shown (first ++ (0x00 ∷ []))) ((0 ∷ []) ++ (onePixel ++ (onePixel ++ (50 ∷ []))))
+    ∷ case 3 (answer 8 (0x83 ∷ drop 1 first) ∷ []) (2 ∷ [])
+    ∷ case 4 (answer 8 (take 6 first) ∷ answer 8 (take 7 first) ∷ []) (1 ∷ 1 ∷ [])
+    ∷ case 5 (answer 8 (first ++ (0x01 ∷ 0x09 ∷ [])) ∷ []) (2 ∷ [])
+    ∷ case 6 (answer 0 [] ∷ answer 1 [] ∷ []) (0 ∷ 1 ∷ [])
+    ∷ case 7 (lenOf 127 ∷ lenOf 128 ∷ lenOf 255 ∷ []) (127 ∷ 2 ∷ 129 ∷ [])
+    ∷ case 8 (uv 0 ∷ uv 1 ∷ uv 255 ∷ []) (39 ∷ 119 ∷ 20420 ∷ [])
+    ∷ case 11 (drop 8 (samples true true 2 1 1 2 (replicate 8 0xFF ++ (2 ∷ replicate 7 0)))) (1 ∷ replicate 7 0)
+    ∷ case 12 (gathered 4 1 2 true (1 ∷ 1 ∷ 1 ∷ 1 ∷ [])) (3 ∷ 1 ∷ 4 ∷ 2 ∷ [])
+    ∷ []
