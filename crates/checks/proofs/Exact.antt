@@ -9,8 +9,10 @@ use lib.Dec.{ltb}
 use borrow.Author.Tests.{le-ltb, ltb-false}
 use Rattle.lists.specs.Lists.{pick}
 use Rattle.checks.specs.Numbers.{budget}
-use Rattle.checks.specs.Checks.{Check, must, pay, run, verdict, Holds, cost}
+use Rattle.checks.specs.Checks.{Check, must, pay, run, verdict, Holds, cost, Never}
+use Rattle.checks.specs.declared.Told.{Told}
 use Rattle.checks.specs.declared.Told.the-variants.{Refused, Passed}
+use Rattle.checks.specs.declared.Verdict.{Verdict}
 use Rattle.checks.specs.declared.Verdict.the-variants as verdict-is
 
 pub record Exact (cs : List Check) (u v : ℕ) : Type 0 where
@@ -125,3 +127,51 @@ unfolding cost
 cost-then [] b = omega arith
 cost-then (must t n ∷ a) b = cost-then a b
 cost-then (pay n ∷ a) b = let e = cost-then a b in omega arith
+
+-- a list that charges nothing: its answer with the units as they are
+told : Verdict → ℕ → Told
+told verdict-is.Fine u = Passed u
+told (verdict-is.Refused e) u = Refused e u
+
+run-free : (cs : List Check) (u : ℕ) → cost cs ≡ 0 → run cs u ≡ told (verdict cs) u
+unfolding run verdict cost told
+run-free [] u z = refl
+run-free (must true n ∷ cs) u z = run-free cs u z
+run-free (must false n ∷ cs) u z = refl
+run-free (pay n ∷ cs) u z =
+    let a : n ≡ 0 = omega arith in
+    let l : n ≤ u = omega arith in
+    let e : u - n ≡ u = omega arith in
+    rw (le-ltb u n l, e) (run-free cs u (omega arith))
+
+pub run-fine : (cs : List Check) (u : ℕ) → cost cs ≡ 0 → verdict cs ≡ verdict-is.Fine → run cs u ≡ Passed u
+unfolding told
+run-fine cs u z e = run-free cs u z ∙ ap (λ (r : Verdict). told r u) e
+
+pub run-refused : (cs : List Check) (u n : ℕ) → cost cs ≡ 0 → verdict cs ≡ verdict-is.Refused n → run cs u ≡ Refused n u
+unfolding told
+run-refused cs u n z e = run-free cs u z ∙ ap (λ (r : Verdict). told r u) e
+
+-- a number that no check of a list can give is never its answer
+refused-other : (e m u v : ℕ) → (m ≡ e → ⊥) → Refused m u ≡ Refused e v → ⊥
+refused-other e m u v d q = d cc
+
+pub never : (e : ℕ) (cs : List Check) (u v : ℕ) → Never e cs → run cs u ≡ Refused e v → ⊥
+unfolding run Never
+never e [] u v h q = refused-passed e v u (sym q)
+never e (must true n ∷ cs) u v h q = never e cs u v (h .1) q
+never e (must false n ∷ cs) u v h q = refused-other e n u v (λ z. refused-fine 0 (false-fine (h .0 z))) q
+  where
+    false-fine : false ≡ true → verdict-is.Refused 0 ≡ verdict-is.Fine
+    false-fine z = let k : _≡_ {A = ℕ} 0 1 = cc in absurd (omega arith)
+never e (pay n ∷ cs) u v h q = paid (ltb u n) q (never e cs (u - n) v (h .1))
+  where
+    paid : (t : Bool) → pick t (Refused budget u) (run cs (u - n)) ≡ Refused e v → (run cs (u - n) ≡ Refused e v → ⊥) → ⊥
+    paid true x k = refused-other e budget u v (h .0) x
+    paid false x k = k x
+
+pub never-both : (e : ℕ) (a b : List Check) → Never e a → Never e b → Never e (a ++ b)
+unfolding Never
+never-both e [] b x y = y
+never-both e (must t n ∷ a) b x y = (x .0, never-both e a b (x .1) y)
+never-both e (pay n ∷ a) b x y = (x .0, never-both e a b (x .1) y)

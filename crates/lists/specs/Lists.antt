@@ -3,11 +3,15 @@ use Prim.Native.Nat.{ℕ, zero, suc, _*_}
 use mathlib.Core.List.{List, [], _∷_, _++_}
 use mathlib.Core.Bool.{Bool, true, false}
 use lib.ListN.{length, take, drop}
+use lib.Dec.{ltb}
 
 -- x where the test holds, else y
 abbrev pub pick : {X : Type 0} → Bool → X → X → X
 pick true x y = x
 pick false x y = y
+
+abbrev pub lesser : ℕ → ℕ → ℕ
+lesser a b = pick (ltb a b) a b
 
 -- n elements of f, from the index i on
 unfoldable pub span : (ℕ → ℕ) → ℕ → ℕ → List ℕ
