@@ -1,0 +1,103 @@
+// What is seen of a file under a delivery map: whether bytes lie in the file and came, and the words that they make.
+use checks::Verdict;
+ghost use mathlib.Core.Path.{_≡_};
+ghost use Prim.Native.Nat.{_-_, _<_};
+ghost use lib.ListN.{length};
+ghost use Rattle.checks.specs.Checks.{verdict};
+ghost use Rattle.seen.specs.Seen.{seen, blockCame, arrived, whole, reachOf, there, There, two, four};
+
+// Where the bytes asked for are: in the file and arrived, not all in the file, or in it and not all arrived.
+pub enum Reach {
+    Inside,
+    Outside,
+    Missing,
+}
+
+// Whether the map says that a block came.
+fn block_came(map: &[u8], block: usize) -> bool
+    ensures { λ r. ⌜ r ≡ blockCame (now (map .entry)) block ⌝ }
+{
+    if block < map.len() {
+        map[block] == 1
+    } else {
+        false
+    }
+}
+
+// Whether each block from that of start to that of the byte before end came.
+fn blocks_came(map: &[u8], start: usize, end: usize) -> bool
+    requires { ⌜ (start < end) × (0 < length (now map)) ⌝ }
+    ensures { λ r. ⌜ r ≡ whole (arrived (now (map .entry))) start (end - start) ⌝ }
+{
+    let last = (end - 1) / 512;
+    let mut block = start / 512;
+    while block <= last {
+        if !block_came(map, block) {
+            return false;
+        }
+        block += 1;
+    }
+    true
+}
+
+// Whether n bytes from start lie in the file, and came. It looks at the blocks touched, once each.
+pub fn reached(file: &[u8], map: &[u8], start: usize, n: usize) -> Reach
+    ensures { λ r. ⌜ r ≡ reachOf (seen (now (file .entry)) (now (map .entry))) start n ⌝ }
+{
+    let size = file.len();
+    if size < start {
+        return Reach::Outside;
+    }
+    if size - start < n {
+        return Reach::Outside;
+    }
+    if n == 0 {
+        return Reach::Inside;
+    }
+    if map.len() == 0 {
+        return Reach::Inside;
+    }
+    if blocks_came(map, start, start + n) {
+        Reach::Inside
+    } else {
+        Reach::Missing
+    }
+}
+
+// The same as a check: outside 1, not arrived 8.
+pub fn need(file: &[u8], map: &[u8], start: usize, n: usize) -> Verdict
+    ensures { λ r. ⌜ r ≡ verdict (there (seen (now (file .entry)) (now (map .entry))) start n) ⌝ }
+{
+    match reached(file, map, start, n) {
+        Reach::Inside => Verdict::Fine,
+        Reach::Outside => Verdict::Refused(checks::TRUNCATED),
+        Reach::Missing => Verdict::Refused(checks::NOT_ARRIVED),
+    }
+}
+
+fn wide(x: u8) -> usize
+    ensures { λ r. ⌜ (r ≡ x) × (r < 256) ⌝ }
+{
+    x as usize
+}
+
+// The word of two bytes at a place where they are.
+pub fn word2(file: &[u8], map: &[u8], big: bool, at: usize) -> usize
+    requires { ⌜ There (seen (now file) (now map)) at 2 ⌝ }
+    ensures { λ r. ⌜ (r ≡ two big (seen (now (file .entry)) (now (map .entry))) at) × (r < 65536) ⌝ }
+{
+    let a = wide(file[at]);
+    let next = at + 1;
+    let b = wide(file[next]);
+    if big { a * 256 + b } else { a + b * 256 }
+}
+
+// The word of four bytes at a place where they are.
+pub fn word4(file: &[u8], map: &[u8], big: bool, at: usize) -> usize
+    requires { ⌜ There (seen (now file) (now map)) at 4 ⌝ }
+    ensures { λ r. ⌜ (r ≡ four big (seen (now (file .entry)) (now (map .entry))) at) × (r < 4294967296) ⌝ }
+{
+    let a = word2(file, map, big, at);
+    let b = word2(file, map, big, at + 2);
+    if big { a * 65536 + b } else { a + b * 65536 }
+}
