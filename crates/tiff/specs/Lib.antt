@@ -1,0 +1,5 @@
+pub mod Header
+pub mod Directory
+pub mod Walk
+pub mod Values
+pub mod Geometry

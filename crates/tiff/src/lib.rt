@@ -1,0 +1,23 @@
+// The TIFF container over what is seen of a file: header, directories up to a page, values of entries, geometry.
+
+// One directory, and the walk to the page asked for.
+pub mod directory;
+
+// How a picture is cut into segments.
+pub mod geometry;
+
+// The limits on the whole file, its byte order and its first directory.
+pub mod header;
+
+// Type, count and values of an entry.
+pub mod values;
+
+// What a caller allows.
+pub struct Limits {
+    pub max_input: usize,
+    pub max_output: usize,
+    pub max_dimension: usize,
+    pub max_directories: usize,
+    pub max_tags: usize,
+    pub max_segments: usize,
+}
