@@ -1,0 +1,6 @@
+pub mod ScalarSlots
+pub mod Samples
+pub mod Steps
+pub mod Sizes
+pub mod Formats
+pub mod Fronts

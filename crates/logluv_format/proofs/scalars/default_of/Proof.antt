@@ -1,0 +1,22 @@
+-- The table is the list of defaults.
+use Rattle.logluv_format.proofs.ScalarSlots.{default-small}
+use Rattle.logluv_format.specs.Profile.{defaults}
+use mathlib.Core.Path.{refl}
+use native.Mathlib.Omega.{arith}
+use borrow.Author.Needs.{needs}
+use Rattle.logluv_format.proofs.scalars.default_of.Statement.{statement}
+use Rattle.logluv_format.proofs.scalars.default_of.Tie as tie
+use Rattle.logluv_format.proofs.scalars.default_of.Lts as lts
+
+mul-result : tie.Need-mul-result
+mul-result c = search needs
+
+array-read-result : tie.Need-array-read-result
+array-read-result c = search needs
+
+returns : tie.Need-returns
+unfolding defaults
+returns c = (refl, default-small (c .args .slot) (omega arith))
+
+pub default-of-spec : {M : Type 1} → statement M
+default-of-spec = tie.close (tie.spec mul-result array-read-result returns)
