@@ -1,0 +1,3 @@
+pub mod Container
+pub mod Accepted
+pub mod Arrival
