@@ -1,10 +1,17 @@
 -- The marked cases of document 01 as one list: what the definitions give, beside what the document says.
 use Prim.Native.Nat.{ℕ, _*_}
-use mathlib.Core.Bool.{true}
+use mathlib.Core.Bool.{true, false}
 use mathlib.Core.List.{List, [], _∷_, _++_}
 use lib.ListN.{length, take, drop, replicate}
+use Rattle.lists.specs.Lists.{tabulate}
 use Rattle.checks.specs.Numbers.{numberOf}
 use Rattle.checks.specs.Checks.{verdict}
+use Rattle.seen.specs.Seen.{seen}
+use Rattle.tiff.specs.Directory.{none}
+use Rattle.tiff.specs.Geometry.{rowsOf, byteSegment, byteLocal}
+use Rattle.logluv_format.specs.Profile.{number, shapeOf, acrossOf, segmentsOf}
+use Rattle.logluv_format.specs.declared.scalars.Numbers.{Numbers}
+use Rattle.logluv_format.specs.declared.profile.Shape.{Shape}
 use Rattle.logluv.specs.Packets.{lenOf, rangeChecks, expand}
 use Rattle.logluv_segment.specs.Luv.{uv, pixels}
 use Rattle.logluv_segment.specs.Fee.{fee}
@@ -33,6 +40,33 @@ first = 0x80 ∷ 0x07 ∷ 0x80 ∷ 0x01 ∷ 0x80 ∷ 0x02 ∷ 0x80 ∷ 0x03 ∷ 
 abbrev onePixel : List ℕ
 onePixel = 0x01 ∷ 0x07 ∷ 0xC7 ∷ 0x00 ∷ 0x17 ∷ 0x01 ∷ []
 
+-- the rows of each segment, in the segments' order
+abbrev rowsOfEach : Shape → List ℕ
+rowsOfEach s = tabulate (segmentsOf s) (rowsOf (s .tiled) (s .height) (s .«block_height») (acrossOf s))
+
+abbrev sides : ℕ → ℕ → ℕ → ℕ → Numbers
+sides width height rows side = record {
+  width = width;
+  height = height;
+  compression = 34676;
+  photometric = 32845;
+  «fill_order» = 1;
+  orientation = 1;
+  samples = 3;
+  «strip_rows» = rows;
+  planar = 1;
+  predictor = 1;
+  «tile_width» = side;
+  «tile_height» = side;
+}
+
+-- strips of a picture of this height and so many rows, and tiles of 16 by 16 of one of 17 by 5
+abbrev strips : ℕ → ℕ → Shape
+strips height rows = shapeOf (sides 1 height rows 0) false
+
+abbrev tiles : Shape
+tiles = shapeOf (sides 17 5 0 16) true
+
 unfoldable pub cases : List Case
 cases =
     case 1 (shown first) ((0 ∷ []) ++ (onePixel ++ (onePixel ++ (49 ∷ []))))
@@ -43,6 +77,8 @@ cases =
     ∷ case 6 (answer 0 [] ∷ answer 1 [] ∷ []) (0 ∷ 1 ∷ [])
     ∷ case 7 (lenOf 127 ∷ lenOf 128 ∷ lenOf 255 ∷ []) (127 ∷ 2 ∷ 129 ∷ [])
     ∷ case 8 (uv 0 ∷ uv 1 ∷ uv 255 ∷ []) (39 ∷ 119 ∷ 20420 ∷ [])
+    ∷ case 9 (rowsOfEach (strips 5 2) ++ rowsOfEach (strips 5 (number (seen [] []) false none 9))) (2 ∷ 2 ∷ 1 ∷ 5 ∷ [])
+    ∷ case 10 (rowsOfEach tiles ++ (byteSegment 6 17 16 16 (acrossOf tiles) 98 ∷ byteLocal 6 17 16 16 98 ∷ [])) (16 ∷ 16 ∷ 1 ∷ 2 ∷ [])
     ∷ case 11 (drop 8 (samples true true 2 1 1 2 (replicate 8 0xFF ++ (2 ∷ replicate 7 0)))) (1 ∷ replicate 7 0)
     ∷ case 12 (gathered 4 1 2 true (1 ∷ 1 ∷ 1 ∷ 1 ∷ [])) (3 ∷ 1 ∷ 4 ∷ 2 ∷ [])
     ∷ []
