@@ -2,7 +2,6 @@
 // A model written from document 01 alone made the vectors and `stdout` (tests/leaf_vectors.py): nothing expected is in here.
 use checks::Verdict;
 use libc::STDOUT_FILENO;
-ghost use mathlib.Core.Path.{_≡_};
 ghost use Prim.Native.Nat.{_+_, _<_, _≤_};
 ghost use lib.ListN.{length};
 
@@ -37,48 +36,15 @@ struct Head {
     scratch: usize,
 }
 
-fn wide(x: u8) -> usize
-    ensures { λ r. ⌜ (r ≡ x) × (r < 256) ⌝ }
-{
-    x as usize
-}
-
-fn least(a: usize, b: usize) -> usize
-    ensures { λ r. ⌜ (r ≤ a) × (r ≤ b) ⌝ }
-{
-    if a < b { a } else { b }
-}
-
-// Half of a number: four bytes, the least significant first.
-fn half(p: &[u8]) -> usize
-    requires { ⌜ length (now p) ≡ 4 ⌝ }
-    ensures { λ r. ⌜ r < 4294967296 ⌝ }
-{
-    wide(p[0]) + 256 * wide(p[1]) + 65536 * wide(p[2]) + 16777216 * wide(p[3])
-}
-
-// The number at a place, or 0 where the file ends before it does.
-fn num(file: &[u8], at: usize) -> usize {
-    if file.len() < 8 {
-        return 0;
-    }
-    if file.len() - 8 < at {
-        return 0;
-    }
-    let middle = at + 4;
-    let end = at + 8;
-    half(&file[at..middle]) + 4294967296 * half(&file[middle..end])
-}
-
 fn head_of(head: &[u8]) -> Head {
-    let a = num(head, TAG);
-    let b = num(head, TAG + 8);
-    let c = num(head, TAG + 16);
-    let d = num(head, TAG + 24);
-    let e = num(head, TAG + 32);
-    let input = num(head, TAG + 40);
-    let out = num(head, TAG + 48);
-    let scratch = num(head, TAG + 56);
+    let a = records::num(head, TAG);
+    let b = records::num(head, TAG + 8);
+    let c = records::num(head, TAG + 16);
+    let d = records::num(head, TAG + 24);
+    let e = records::num(head, TAG + 32);
+    let input = records::num(head, TAG + 40);
+    let out = records::num(head, TAG + 48);
+    let scratch = records::num(head, TAG + 56);
     Head {
         a: a,
         b: b,
@@ -94,7 +60,7 @@ fn head_of(head: &[u8]) -> Head {
 fn put_hex(bytes: &[u8]) {
     let mut i: usize = 0;
     while i < bytes.len() {
-        io::print_hex(STDOUT_FILENO, wide(bytes[i]) as u64, 2);
+        io::print_hex(STDOUT_FILENO, records::wide(bytes[i]) as u64, 2);
         i += 1;
     }
 }
@@ -105,7 +71,7 @@ fn adler(bytes: &[u8]) -> u64 {
     let mut b: usize = 0;
     let mut i: usize = 0;
     while i < bytes.len() {
-        a = (a + wide(bytes[i])) % 65521;
+        a = (a + records::wide(bytes[i])) % 65521;
         b = (b + a) % 65521;
         i += 1;
     }
@@ -182,8 +148,8 @@ fn run_predictor3(h: Head, input: &[u8], scratch: &mut [u8], out: &mut [u8]) {
 
 // Lends the parts that the record asks for, and makes its call.
 fn run(kind: Kind, h: Head, input: &[u8], scratch: &mut [u8], out: &mut [u8]) {
-    let n = least(h.out, out.len());
-    let m = least(h.scratch, scratch.len());
+    let n = records::least(h.out, out.len());
+    let m = records::least(h.scratch, scratch.len());
     match kind {
         Kind::Packets => run_packets(h, input, &mut out[0..n]),
         Kind::Planes => run_planes(h, input, &mut out[0..n]),
