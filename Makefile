@@ -12,6 +12,8 @@ test:
 vectors:
 	python3 tests/leaf_vectors.py
 	python3 tests/leaf_vectors.py --wrong
+	python3 tests/front_vectors.py
+	python3 tests/front_vectors.py --wrong
 
 format:
 	rt fmt

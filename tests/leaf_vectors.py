@@ -15,16 +15,15 @@ the sum of all samples since its sum began, so that an error of the code's runni
 be repeated here.
 """
 import collections
-import os
 import struct
 import sys
 import zlib
 
-ROOT = os.path.join(os.path.dirname(os.path.abspath(__file__)), '..', 'crates', 'leaf_vectors')
-TOP = 2 ** 64 - 1   # the largest number a caller can pass
+sys.dont_write_bytecode = True  # no folder of compiled modules beside the scripts
+from vectors import Draw, TOP, main
+
 FILL = 0xA5         # what the program fills its buffers with before a call
 ROOM = 2048         # the longest buffer that it can lend
-FILE = 65536        # the longest file that it reads
 
 # numbers are the call's own, in the order of its parameters; out and scratch the lengths of what is lent.
 Record = collections.namedtuple('Record', 'tag numbers data out scratch')
@@ -168,24 +167,6 @@ def line(kind, r):
 # ---- end of the model ----
 
 # ---- vectors ----
-
-class Draw:
-    """Numbers drawn by a rule of our own, so that the files are the same with every Python."""
-    def __init__(self, seed):
-        self.state = seed
-
-    def below(self, n):
-        self.state = (self.state * 6364136223846793005 + 1442695040888963407) % 2 ** 64
-        return (self.state >> 33) % n
-
-    def between(self, a, b):
-        return a + self.below(b - a + 1)
-
-    def of(self, things):
-        return things[self.below(len(things))]
-
-    def some(self, n):
-        return bytes(self.below(256) for _ in range(n))
 
 def counted(n, seed):
     """n bytes that differ from their neighbours, so that a shifted copy shows."""
@@ -710,19 +691,6 @@ def packed(r):
     assert len(r.tag) <= 16 and r.out <= ROOM and r.scratch <= ROOM and all(0 <= n <= TOP for n in numbers), r
     return r.tag.ljust(16).encode() + struct.pack('<8Q', *numbers, len(r.data), r.out, r.scratch) + r.data
 
-def made(all_files):
-    """Every file of the crate that this script writes."""
-    written, text = {}, []
-    for name, kind, records in all_files:
-        tags = [r.tag for r in records]
-        assert len(set(tags)) == len(tags), [t for t in tags if tags.count(t) > 1]
-        body = b''.join(map(packed, records))
-        assert len(body) < FILE, (name, len(body))
-        written['data/' + name] = body
-        text += [name] + [line(kind, r) for r in records]
-    written['stdout'] = ('\n'.join(text) + '\n').encode()
-    return written
-
 # Mistakes, each a change of one place of the model: what they are, the text and what stands there instead.
 WRONG = (
     ('control 128 is a literal', 'if control < 128 else (control - 126, 1)', 'if control <= 128 else (control - 126, 1)'),
@@ -881,46 +849,5 @@ WRONG = (
     ('3: the rest of out is cleared', "whole + out[len(whole):]\n\n# What", "whole + [0] * (len(out) - len(whole))\n\n# What"),
 )
 
-def unnoticed(all_files):
-    """The mistakes with which every line still comes out right."""
-    with open(os.path.abspath(__file__)) as f:
-        text = f.read()
-    model = text[text.index('# ---- model ----'):text.index('# ---- end of the model ----')]
-    right, missed = [line(kind, r) for _, kind, records in all_files for r in records], []
-    for name, old, new in WRONG:
-        assert model.count(old) == 1, (name, model.count(old))
-        names = dict(globals())
-        exec(model.replace(old, new), names)
-        if [names['line'](kind, r) for _, kind, records in all_files for r in records] == right:
-            missed.append(name)
-    return missed
-
-def main(words_given):
-    all_files = files()
-    written = made(all_files)
-    if words_given == ['--wrong']:
-        missed = unnoticed(all_files)
-        for name in missed:
-            print('no vector notices:', name)
-        print('%d mistakes tried, %d unnoticed' % (len(WRONG), len(missed)))
-        return 1 if missed else 0
-    if words_given == ['--check']:
-        bad = 0
-        for name, body in written.items():
-            path = os.path.join(ROOT, name)
-            if not os.path.exists(path) or open(path, 'rb').read() != body:
-                print('differs:', name)
-                bad = 1
-        return bad
-    for name, body in written.items():
-        path = os.path.join(ROOT, name)
-        os.makedirs(os.path.dirname(path), exist_ok=True)
-        with open(path, 'wb') as f:
-            f.write(body)
-    for name, kind, records in all_files:
-        print('%-22s %5d records %6d bytes' % (name, len(records), len(written['data/' + name])))
-    print('%-22s %5d lines   %6d bytes' % ('stdout', written['stdout'].count(b'\n'), len(written['stdout'])))
-    return 0
-
 if __name__ == '__main__':
-    sys.exit(main(sys.argv[1:]))
+    sys.exit(main(sys.argv[1:], 'leaf_vectors', globals()))
