@@ -122,6 +122,9 @@ holds-both [] b x y = y
 holds-both (must t n ∷ a) b x y = (x .0, holds-both a b (x .1) y)
 holds-both (pay n ∷ a) b x y = holds-both a b x y
 
+pub both : {A B : Type 0} (a b : List Check) → (Holds a ↔ A) → (Holds b ↔ B) → Holds (a ++ b) ↔ (A × B)
+both a b x y = (λ h. let z = holds-then a b h in (x .0 (z .0), y .0 (z .1)), λ p. holds-both a b (x .1 (p .0)) (y .1 (p .1)))
+
 pub cost-then : (a b : List Check) → cost (a ++ b) ≡ cost a + cost b
 unfolding cost
 cost-then [] b = omega arith
