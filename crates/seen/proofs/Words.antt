@@ -1,14 +1,15 @@
 -- Bytes that are there are the file's own, and the words that they make are those seen.
-use Prim.Native.Nat.{ℕ, _+_, _-_, _*_, _<_, _≤_}
+use Prim.Native.Nat.{ℕ, zero, suc, _+_, _-_, _*_, _<_, _≤_}
 use mathlib.Core.Path.{_≡_, refl, sym, _∙_}
 use mathlib.Core.List.{List}
 use mathlib.Core.Bool.{Bool, true, false}
 use native.Mathlib.Omega.{arith}
-use lib.ListN.{length, getD}
+use lib.ListN.{length, getD, take, drop}
+use lib.Seq.{drop-cons}
 use lib.Dec.{leb}
 use borrow.Author.Needs.{needs}
 use borrow.Author.Tests.{leb-true, le-leb}
-use Rattle.lists.specs.Lists.{pick}
+use Rattle.lists.specs.Lists.{pick, span}
 use Rattle.checks.specs.Checks.{verdict, Holds}
 use Rattle.checks.specs.declared.Verdict.{Verdict}
 use Rattle.checks.specs.declared.Verdict.the-variants as verdict-is
@@ -69,6 +70,16 @@ module _ (file map : List ℕ) (at : ℕ) where
     pub two-little : big ≡ false → a + b * 256 ≡ two big (seen file map) at
     unfolding two
     two-little e = rw (ea, eb, e, byte-came 2 t at (omega arith) (omega arith), byte-came 2 t (at + 1) (omega arith) (omega arith))
+
+-- and all of them as a list
+pub bytes-there : (file map : List ℕ) (n at : ℕ) → There (seen file map) at n → span (seen file map .byte) at n ≡ take n (drop at file)
+unfolding span
+bytes-there file map zero at t = refl
+bytes-there file map (suc n) at t =
+    let l : at < length file = omega (arith, t .in-file) in
+    let b = byte-came file map at (suc n) t at (omega arith) (omega arith) in
+    let r = bytes-there file map n (suc at) (there-part (seen file map) at (suc n) (suc at) n t (omega arith) (omega arith)) in
+    rw (drop-cons file at 0 l, b, r)
 
 module _ (v : Seen) (at : ℕ) (big : Bool) (a b : ℕ) (ea : a ≡ two big v at) (eb : b ≡ two big v (at + 2)) where
   pub four-big : big ≡ true → a * 65536 + b ≡ four big v at
