@@ -2,5 +2,3 @@ pub mod Orders
 pub mod Entries
 pub mod Pages
 pub mod Places
-pub mod EntryValues
-pub mod Cutting

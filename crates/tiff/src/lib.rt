@@ -1,16 +1,10 @@
-// The TIFF container over what is seen of a file: header, directories up to a page, values of entries, geometry.
+// The TIFF container over what is seen of a file: header, and directories up to a page.
 
 // One directory, and the walk to the page asked for.
 pub mod directory;
 
-// How a picture is cut into segments.
-pub mod geometry;
-
 // The limits on the whole file, its byte order and its first directory.
 pub mod header;
-
-// Type, count and values of an entry.
-pub mod values;
 
 // What a caller allows.
 pub struct Limits {

@@ -1,0 +1,55 @@
+-- Values of an entry: a single one sits left-justified in the entry's field, an array at the offset there.
+use Prim.Native.Nat.{ℕ, _+_, _*_}
+use mathlib.Core.Bool.{Bool, _&&_, _||_}
+use lib.Dec.{eqb}
+use Rattle.lists.specs.Lists.{pick}
+use Rattle.seen.specs.Seen.{Seen, There, two, four, reachOf}
+use Rattle.seen.specs.declared.Reach.{Reach}
+use Rattle.seen.specs.declared.Reach.the-variants as reach-is
+use Rattle.tiff.specs.Directory.{typeAt}
+use Rattle.entries.specs.declared.Value.{Value}
+use Rattle.entries.specs.declared.Value.the-variants.{Outside, Missing, Number}
+
+module _ (v : Seen) (big : Bool) (e : ℕ) where
+  abbrev pub countAt : ℕ
+  countAt = four big v (e + 4)
+
+  unfoldable pub numeric : Bool
+  numeric = eqb (typeAt v big e) 3 || eqb (typeAt v big e) 4
+
+  unfoldable pub hasValues : ℕ → Bool
+  hasValues n = eqb countAt n && numeric
+
+  -- type 3 has two bytes, type 4 four
+  unfoldable pub sizeOf : ℕ
+  sizeOf = pick (eqb (typeAt v big e) 3) 2 4
+
+  -- the value of the entry's type at a place
+  unfoldable pub wordAt : ℕ → ℕ
+  wordAt p = pick (eqb (typeAt v big e) 3) (two big v p) (four big v p)
+
+  abbrev pub scalarOf : ℕ
+  scalarOf = wordAt (e + 8)
+
+  -- whether the values sit in the entry itself
+  unfoldable pub inField : Bool
+  inField = eqb countAt 1
+
+  -- where value i lies
+  unfoldable pub placeOf : ℕ → ℕ
+  placeOf i = pick inField (e + 8) (four big v (e + 8)) + sizeOf * i
+
+  abbrev pub valueAt : ℕ → ℕ
+  valueAt i = wordAt (placeOf i)
+
+  abbrev found : Reach → ℕ → Value
+  found reach-is.Outside n = Outside
+  found reach-is.Missing n = Missing
+  found reach-is.Inside n = Number n
+
+  unfoldable pub valueIs : ℕ → Value
+  valueIs i = found (reachOf v (placeOf i) sizeOf) (valueAt i)
+
+  pub record WordThere (p : ℕ) : Type 0 where
+    pub entry : There v e 12
+    pub word : There v p sizeOf
