@@ -10,35 +10,33 @@ use lib.ListN.{length, getD}
 use lib.Dec.{eqb}
 use borrow.Author.Tests.{lt-ltb, ltb-true, leb-true, eqb-true, eqb-false, le-leb, eq-eqb, ne-eqb, not-true}
 use Rattle.lists.specs.Lists.{lesser}
+use Rattle.lists.proofs.Lesser.{lesser-min}
 use Rattle.checks.specs.Numbers.{unsupported}
 use Rattle.checks.specs.Checks.{Check, must, pay, run, verdict, Holds, cost}
 use Rattle.checks.specs.declared.Told.{Told}
 use Rattle.checks.specs.declared.Told.the-variants as told-is
 use Rattle.checks.specs.declared.Told.the-variants.{Passed}
 use Rattle.checks.specs.declared.Verdict.the-variants as verdict-is
-use Rattle.checks.proofs.Exact.{Exact, fine, accepted, holds-then, holds-both, cost-then}
+use Rattle.checks.proofs.Exact.{Exact, fine, accepted, both, holds-then, holds-both, cost-then}
 use Rattle.seen.specs.Seen.{Seen, there, There}
 use Rattle.seen.proofs.Blocks.{true-false}
-use Rattle.seen.proofs.Words.{there-holds, holds-there}
+use Rattle.seen.proofs.Words.{there-part, there-holds, holds-there}
 use Rattle.tiff.specs.Header.{headerChecks, big, firstOf}
 use Rattle.tiff.specs.Directory.{typeAt, entriesAt, slotsAt}
 use Rattle.tiff.specs.Walk.{walkChecks, pageAt}
-use Rattle.tiff.specs.Values.{countAt, numeric, hasValues, sizeOf, placeOf, valueAt}
-use Rattle.front.specs.Container.{HeaderFine, WalkFine}
+use Rattle.entries.specs.Values.{countAt, numeric, hasValues, sizeOf, placeOf, valueAt}
+use Rattle.front.specs.Container.{HeaderFine, entryAt, DirectoryFine, WalkFine}
 use Rattle.tiff.specs.declared.Limits.{Limits}
 use Rattle.tiff.proofs.Orders.{header-free}
 use Rattle.logluv_format.proofs.Formats.{profile-free}
-use Rattle.front.proofs.Container.{header-fine, walk-fine, walk-cost}
+use Rattle.front.proofs.Container.{header-fine, slot-present, walk-fine, walk-cost}
 use Rattle.logluv_format.specs.Profile.{present, scalars, scalarFine, scalarChecks, numbersOf, kindChecks, plainChecks, numberChecks, eachIs, threeChecks, depthChecks, sampleChecks, shapeOf, sideChecks, tileChecks, stripChecks, layoutChecks, segmentsOf, sizeChecks, offsetsIn, countsIn, carries, listChecks, segmentChecks, blockChecks, profileChecks, formatIn, formatOf}
-use Rattle.logluv_format.specs.Front.{found, paidChecks, pageChecks, frontChecks, formatSeen, foundOf}
-use Rattle.front.specs.Accepted.{Carries, ThreeFine, KindFine, PlainFine, BlocksFine, TilesFine, StripsFine, ProfileFine, frontFee, FrontFine, Valid}
+use Rattle.front.specs.Front.{found, paidChecks, pageChecks, frontChecks, formatSeen, foundOf}
+use Rattle.front.specs.Accepted.{Carries, ThreeFine, KindFine, PlainFine, BlocksFine, TilesFine, StripsFine, ProfileFine, frontFee, FrontFine}
+use Rattle.logluv_format.specs.Readable.{Valid, Readable}
 use Rattle.logluv_format.specs.declared.Format.{Format}
-use Rattle.logluv_format.specs.declared.Found.the-variants.{Picture}
+use Rattle.front.specs.declared.Found.the-variants.{Picture}
 use Rattle.logluv_format.specs.declared.scalars.Numbers.{Numbers}
-
--- one list after the other
-both : {A B : Type 0} (a b : List Check) → (Holds a ↔ A) → (Holds b ↔ B) → Holds (a ++ b) ↔ (A × B)
-both a b x y = (λ h. let z = holds-then a b h in (x .0 (z .0), y .0 (z .1)), λ p. holds-both a b (x .1 (p .0)) (y .1 (p .1)))
 
 -- tests in numbers
 present-pos : (e : ℕ) → present e ≡ true → 0 < e
@@ -341,6 +339,7 @@ module _ (v : Seen) (b : Bool) (entries : ℕ) (slots : List ℕ) (l : Limits) (
     some-width = f .kind .some-width;
     some-height = f .kind .some-height;
     strip-width = λ z. absurd (true-false refl z);
+    strip-height = λ z. absurd (true-false refl z);
     some-block-width = t .blocks .some-width;
     block-width-allowed = t .blocks .width-allowed;
     some-block-height = t .blocks .some-height;
@@ -356,6 +355,7 @@ module _ (v : Seen) (b : Bool) (entries : ℕ) (slots : List ℕ) (l : Limits) (
     some-width = f .kind .some-width;
     some-height = f .kind .some-height;
     strip-width = λ z. refl;
+    strip-height = λ z. omega (arith, lesser-min (numbersOf v b slots .«strip_rows») (numbersOf v b slots .height));
     some-block-width = s .blocks .some-width;
     block-width-allowed = s .blocks .width-allowed;
     some-block-height = s .blocks .some-height;
@@ -372,6 +372,47 @@ module _ (v : Seen) (b : Bool) (entries : ℕ) (slots : List ℕ) (l : Limits) (
       by true e = strip-valid (f .strips (eqb-true (getD slots 15 0) 0 e))
       by false e = tiled-valid (f .tiles (eqb-false (getD slots 15 0) 0 e))
 
+-- the entry that a slot of a fine directory names is there
+slot-there : (v : Seen) (b : Bool) (maxTags at k : ℕ) → DirectoryFine v b maxTags at → k < 19 → 0 < getD (slotsAt v b at) k 0 → There v (getD (slotsAt v b at) k 0) 12
+slot-there v b maxTags at k d is-slot some =
+    let (i, t, e) = slot-present v b at k is-slot (λ z. omega arith) in
+    rw e (there-part v (at + 2) (12 * entriesAt v b at + 4) (entryAt at i) 12 (d .entries-there) (omega arith) (omega (arith, t .an-entry)))
+
+-- so the format of a fine page can be read
+module _ (v : Seen) (b : Bool) (maxTags at : ℕ) (l : Limits) (d : DirectoryFine v b maxTags at) (f : ProfileFine v b (slotsAt v b at) l) where
+  abbrev slots : List ℕ
+  slots = slotsAt v b at
+
+  abbrev formatAs : Bool → Format
+  formatAs t = formatIn v b (entriesAt v b at) slots (shapeOf (numbersOf v b slots) t)
+
+  tiled-readable : Valid (formatAs true) → TilesFine v b (numbersOf v b slots) l slots → Readable v (formatAs true)
+  unfolding formatIn shapeOf
+  tiled-readable ok t = record {
+    valid = ok;
+    offsets-there = slot-there v b maxTags at 15 d (omega arith) (t .blocks .an-offset-each .present);
+    an-offset-each = t .blocks .an-offset-each .as-many;
+    counts-there = slot-there v b maxTags at 16 d (omega arith) (t .blocks .a-count-each .present);
+    a-count-each = t .blocks .a-count-each .as-many;
+  }
+
+  strip-readable : Valid (formatAs false) → StripsFine v b (numbersOf v b slots) l slots → Readable v (formatAs false)
+  unfolding formatIn shapeOf
+  strip-readable ok s = record {
+    valid = ok;
+    offsets-there = slot-there v b maxTags at 6 d (omega arith) (s .blocks .an-offset-each .present);
+    an-offset-each = s .blocks .an-offset-each .as-many;
+    counts-there = slot-there v b maxTags at 10 d (omega arith) (s .blocks .a-count-each .present);
+    a-count-each = s .blocks .a-count-each .as-many;
+  }
+
+  page-readable : Readable v (formatOf v b (entriesAt v b at) slots)
+  page-readable = by (eqb (getD slots 15 0) 0) refl (valid v b (entriesAt v b at) slots l f)
+    where
+      by : (t : Bool) → eqb (getD slots 15 0) 0 ≡ t → Valid (formatAs (not t)) → Readable v (formatAs (not t))
+      by true e ok = strip-readable ok (f .strips (eqb-true (getD slots 15 0) 0 e))
+      by false e ok = tiled-readable ok (f .tiles (eqb-false (getD slots 15 0) 0 e))
+
 -- the front part: header, directories, 128 units, profile
 module _ (v : Seen) (page : ℕ) (l : Limits) where
   abbrev pageDirectory : ℕ
@@ -380,7 +421,7 @@ module _ (v : Seen) (page : ℕ) (l : Limits) where
   abbrev profileSeen : List Check
   profileSeen = profileChecks v (big v) (entriesAt v (big v) pageDirectory) (slotsAt v (big v) pageDirectory) l
 
-  front-holds : Holds (frontChecks v page l) ↔ (HeaderFine v × (WalkFine v (big v) (l .«max_tags») page (firstOf v) × ProfileFine v (big v) (slotsAt v (big v) pageDirectory) l))
+  pub front-holds : Holds (frontChecks v page l) ↔ (HeaderFine v × (WalkFine v (big v) (l .«max_tags») page (firstOf v) × ProfileFine v (big v) (slotsAt v (big v) pageDirectory) l))
   unfolding Holds frontChecks pageChecks paidChecks
   front-holds =
       both (headerChecks v) (pageChecks v (big v) (firstOf v) page l) (header-fine v)
@@ -413,3 +454,9 @@ module _ (v : Seen) (page : ℕ) (l : Limits) where
         by : (t : Told) → run (frontChecks v page l) u ≡ t → found t (formatSeen v page) ≡ Picture f w → FrontFine v page l u w × (f ≡ formatSeen v page)
         by (Passed x) e q = let z : x ≡ w = cc in (front-fine .0 (e ∙ ap Passed z), cc)
         by (told-is.Refused n x) e q = let z : _≡_ {A = ℕ} 0 1 = cc in absurd (omega arith)
+
+    -- and can be read
+    pub readable : (f : Format) → foundOf v page l u ≡ Picture f w → Readable v f
+    readable f e =
+        let p = picture-found f .0 e in
+        rw (p .1) (page-readable v (big v) (l .«max_tags») pageDirectory l (p .0 .directories .is-fine page (omega arith)) (p .0 .profile))

@@ -17,10 +17,10 @@ use Rattle.seen.proofs.Alike.{same-outcome, came-whole, whole-came}
 use Rattle.tiff.specs.Header.{headerChecks, orderChecks, big, firstOf}
 use Rattle.tiff.specs.Directory.{entriesAt, slotsAt, nextAt, countChecks, charge, tagChecks, directoryChecks}
 use Rattle.tiff.specs.Walk.{walkChecks, pageAt}
-use Rattle.tiff.specs.Values.{sizeOf, placeOf, valueAt}
+use Rattle.entries.specs.Values.{sizeOf, placeOf, valueAt}
 use Rattle.tiff.specs.declared.Limits.{Limits}
 use Rattle.logluv_format.specs.Profile.{present, scalars, scalarChecks, numbersOf, kindChecks, plainChecks, numberChecks, eachIs, threeChecks, depthChecks, sampleChecks, shapeOf, sideChecks, tileChecks, stripChecks, layoutChecks, sizeChecks, listChecks, segmentChecks, blockChecks, profileChecks}
-use Rattle.logluv_format.specs.Front.{paidChecks, pageChecks, frontChecks, foundOf}
+use Rattle.front.specs.Front.{paidChecks, pageChecks, frontChecks, foundOf}
 use Rattle.logluv_format.specs.declared.scalars.Numbers.{Numbers}
 
 -- a list in which a number does not stand cannot give it
@@ -44,7 +44,7 @@ without-never e (pay n ∷ cs) h = by (eqb budget e) refl h (without-never e cs)
     by false q h k = (eqb-false budget e q, k h)
 
 module _ (v : Seen) (all-came : (start n : ℕ) → whole (v .came) start n ≡ true) where
-  never-there : (at n : ℕ) → Never notArrived (there v at n)
+  pub never-there : (at n : ℕ) → Never notArrived (there v at n)
   unfolding Never
   never-there at n = (λ z. absurd (omega arith), (λ z. all-came at n, tt))
 
@@ -103,7 +103,7 @@ module _ (v : Seen) (all-came : (start n : ℕ) → whole (v .came) start n ≡ 
           (without-never notArrived (scalarChecks v b slots scalars) refl)
           (never-both notArrived (sampleChecks v b slots n (l .«max_dimension»)) (blockChecks v b entries slots n l) (never-samples n) (without-never notArrived (blockChecks v b entries slots n l) (without-blocks n (present (getD slots 15 0)))))
 
-  never-front : (page : ℕ) (l : Limits) → Never notArrived (frontChecks v page l)
+  pub never-front : (page : ℕ) (l : Limits) → Never notArrived (frontChecks v page l)
   unfolding frontChecks pageChecks paidChecks Never
   never-front page l =
       let at : ℕ = pageAt v (big v) page (firstOf v) in

@@ -1,3 +1,4 @@
+pub mod Fronts
 pub mod Container
 pub mod Accepted
 pub mod Arrival

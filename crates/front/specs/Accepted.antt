@@ -3,19 +3,18 @@ use Prim.Native.Nat.{ℕ, _+_, _-_, _*_, _%_, _<_, _≤_}
 use mathlib.Core.Path.{_≡_}
 use mathlib.Core.Logic.{_⊎_}
 use mathlib.Core.List.{List}
-use mathlib.Core.Bool.{Bool, false}
+use mathlib.Core.Bool.{Bool}
 use lib.ListN.{getD}
 use Rattle.seen.specs.Seen.{Seen, There}
 use Rattle.tiff.specs.Header.{big, firstOf}
 use Rattle.tiff.specs.Directory.{typeAt, slotsAt}
 use Rattle.tiff.specs.Walk.{pageAt}
-use Rattle.tiff.specs.Values.{countAt, sizeOf, placeOf, valueAt}
+use Rattle.entries.specs.Values.{countAt, sizeOf, placeOf, valueAt}
 use Rattle.lists.specs.Lists.{lesser}
-use Rattle.tiff.specs.Geometry.{pieces}
+use Rattle.geometry.specs.Geometry.{pieces}
 use Rattle.front.specs.Container.{HeaderFine, WalkFine, walkFee}
 use Rattle.tiff.specs.declared.Limits.{Limits}
 use Rattle.logluv_format.specs.Profile.{scalars, numbersOf}
-use Rattle.logluv_format.specs.declared.Format.{Format}
 use Rattle.logluv_format.specs.declared.scalars.Numbers.{Numbers}
 
 module _ (v : Seen) (big : Bool) where
@@ -96,16 +95,3 @@ pub record FrontFine (v : Seen) (page : ℕ) (l : Limits) (u w : ℕ) : Type 0 w
   pub profile : ProfileFine v (big v) (slotsAt v (big v) (pageAt v (big v) page (firstOf v))) l
   pub covered : frontFee v page ≤ u
   pub rest : w ≡ u - frontFee v page
-
--- what is true of every format that the profile gives
-pub record Valid (f : Format) : Type 0 where
-  pub some-width : 0 < f .width
-  pub some-height : 0 < f .height
-  pub strip-width : f .tiled ≡ false → f .«block_width» ≡ f .width
-  pub some-block-width : 0 < f .«block_width»
-  pub block-width-allowed : f .«block_width» ≤ 16384
-  pub some-block-height : 0 < f .«block_height»
-  pub block-height-allowed : f .«block_height» ≤ 16384
-  pub across-is : f .across ≡ pieces (f .width) (f .«block_width»)
-  pub segments-are : f .segments ≡ f .across * pieces (f .height) (f .«block_height»)
-  pub output-is : f .output ≡ 6 * (f .width * f .height)

@@ -1,9 +1,9 @@
 // Runs the vectors of data/ through the container's libraries and writes what came of each, one line a record, to be held to `stdout`.
 // A model written from document 01 alone made the vectors and `stdout` (tests/front_vectors.py): nothing expected is in here.
 use checks::Verdict;
+use front::Found;
 use libc::STDOUT_FILENO;
 use logluv_format::Format;
-use logluv_format::Found;
 use seen::Reach;
 use tiff::Limits;
 ghost use Prim.Native.Nat.{_+_, _<_, _≤_};
@@ -121,7 +121,7 @@ fn run_front(h: Head, file: &[u8], map: &[u8]) {
     };
     match tiff::header::check_limits(file.len(), h.a, limits) {
         Verdict::Refused(n) => put_refusal(n, h.h),
-        Verdict::Fine => put_found(logluv_format::read_format(file, map, h.a, limits, h.h)),
+        Verdict::Fine => put_found(front::read_format(file, map, h.a, limits, h.h)),
     }
 }
 

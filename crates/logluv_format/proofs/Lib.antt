@@ -3,4 +3,3 @@ pub mod Samples
 pub mod Steps
 pub mod Sizes
 pub mod Formats
-pub mod Fronts

@@ -14,7 +14,7 @@ use Rattle.checks.specs.Numbers.{invalid}
 use Rattle.checks.specs.Checks.{verdict}
 use Rattle.checks.specs.declared.Verdict.the-variants as verdict-is
 use Rattle.seen.specs.Seen.{Seen, There}
-use Rattle.tiff.specs.Values.{hasValues, scalarOf}
+use Rattle.entries.specs.Values.{hasValues, scalarOf}
 use Rattle.logluv_format.specs.Profile.{scalars, defaults, scalarFine, scalarChecks, number, numbersOf, EntryThere, SlotsThere}
 
 -- each scalar slot is a slot, and each default has 32 bits

@@ -12,7 +12,7 @@ use Rattle.checks.specs.Sizes.{within}
 use Rattle.checks.specs.declared.Size.{Size}
 use Rattle.checks.specs.declared.Size.the-variants.{Fits, Over}
 use Rattle.checks.proofs.Sizes.{fits-is, over-is}
-use Rattle.tiff.specs.Geometry.{pieces}
+use Rattle.geometry.specs.Geometry.{pieces}
 use Rattle.logluv_format.specs.Profile.{acrossOf, segmentsOf, outputOf, sizeChecks, countedOf, Sound}
 use Rattle.logluv_format.specs.declared.profile.Shape.{Shape}
 use Rattle.logluv_format.specs.declared.profile.Counted.the-variants.{Refused, Sizes}

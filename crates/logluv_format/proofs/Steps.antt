@@ -1,10 +1,11 @@
 -- The profile's steps: what each function's answer comes to in the lists of checks.
 use Prim.Native.Nat.{ℕ, _<_, _≤_}
-use mathlib.Core.Path.{_≡_, sym, _∙_}
+use mathlib.Core.Path.{_≡_, refl, sym, _∙_}
 use mathlib.Core.List.{List, _∷_}
-use mathlib.Core.Bool.{Bool, true, false}
+use mathlib.Core.Bool.{Bool, true, false, _&&_}
+use lib.Dec.{eqb}
 use borrow.Author.Needs.{needs}
-use borrow.Author.Tests.{lt-ltb, le-ltb, eq-eqb, ne-eqb, not-true, not-false}
+use borrow.Author.Tests.{lt-ltb, le-ltb, eq-eqb, ne-eqb, eqb-true, not-true, not-false}
 use Rattle.lists.specs.Lists.{pick}
 use Rattle.checks.specs.Checks.{Check, must, verdict}
 use Rattle.checks.specs.declared.Verdict.{Verdict}
@@ -12,8 +13,8 @@ use Rattle.checks.specs.declared.Verdict.the-variants as verdict-is
 use Rattle.checks.proofs.Rules.{refuse, allow, all-fine, verdict-calls}
 use Rattle.seen.specs.Seen.{Seen, There}
 use Rattle.seen.proofs.Blocks.{true-false}
-use Rattle.tiff.specs.Values.{hasValues}
-use Rattle.logluv_format.specs.Profile.{carries, shapeOf, EntryThere}
+use Rattle.entries.specs.Values.{countAt, numeric, hasValues}
+use Rattle.logluv_format.specs.Profile.{present, carries, shapeOf, EntryThere}
 use Rattle.logluv_format.specs.declared.scalars.Numbers.{Numbers}
 use Rattle.logluv_format.proofs.ScalarSlots.{entry-there, slot-there}
 
@@ -57,6 +58,15 @@ module _ (v : Seen) (big : Bool) (e n : ℕ) where
   pub list-there : {r : Bool} → EntryThere v e → r ≡ carries v big e n → r ≡ true → There v e 12
   list-there t q h = t .entry (λ z. true-false h (q ∙ sym (list-absent z)))
 
+  pub list-counted : {r : Bool} → r ≡ carries v big e n → r ≡ true → countAt v big e ≡ n
+  unfolding carries hasValues
+  list-counted q h = by (present e) (eqb (countAt v big e) n) refl (sym q ∙ h)
+    where
+      by : (a b : Bool) → eqb (countAt v big e) n ≡ b → a && (b && numeric v big e) ≡ true → countAt v big e ≡ n
+      by true true x k = eqb-true (countAt v big e) n x
+      by true false x k = absurd (true-false k refl)
+      by false b x k = absurd (true-false k refl)
+
 -- a test that a call answered
 module _ (b : Bool) (e : ℕ) (cs : List Check) {r : Bool} (q : r ≡ b) where
   pub refuse-told : r ≡ false → verdict-is.Refused e ≡ verdict (must b e ∷ cs)
@@ -65,4 +75,4 @@ module _ (b : Bool) (e : ℕ) (cs : List Check) {r : Bool} (q : r ≡ b) where
   pub allow-told : {t : Verdict} → r ≡ true → t ≡ verdict cs → t ≡ verdict (must b e ∷ cs)
   allow-told f k = allow b e cs (sym q ∙ f) k
 
-pub ruleset arrays = (list-absent, list-present, list-there, refuse-told, allow-told, all-fine, entry-there, slot-there, not-true, not-false, needs)
+pub ruleset arrays = (list-absent, list-present, list-there, list-counted, refuse-told, allow-told, all-fine, entry-there, slot-there, not-true, not-false, needs)

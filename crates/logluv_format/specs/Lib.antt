@@ -1,2 +1,2 @@
 pub mod Profile
-pub mod Front
+pub mod Readable

@@ -11,8 +11,8 @@ use Rattle.checks.specs.Checks.{Check, must, verdict}
 use Rattle.checks.specs.declared.Verdict.{Verdict}
 use Rattle.checks.specs.declared.Verdict.the-variants as verdict-is
 use Rattle.seen.specs.Seen.{Seen, there, There}
-use Rattle.tiff.specs.Values.{hasValues, sizeOf, scalarOf, placeOf, valueAt}
-use Rattle.tiff.specs.Geometry.{pieces}
+use Rattle.entries.specs.Values.{hasValues, sizeOf, scalarOf, placeOf, valueAt}
+use Rattle.geometry.specs.Geometry.{pieces}
 use Rattle.tiff.specs.declared.Limits.{Limits}
 use Rattle.logluv_format.specs.declared.Format.{Format}
 use Rattle.logluv_format.specs.declared.scalars.Numbers.{Numbers}

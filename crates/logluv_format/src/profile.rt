@@ -9,12 +9,13 @@ use checks::Size;
 use checks::TRUNCATED;
 use checks::UNSUPPORTED;
 use checks::Verdict;
+use entries::Value;
 use tiff::Limits;
-use tiff::values::Value;
 ghost use mathlib.Core.Path.{_≡_};
 ghost use Prim.Native.Nat.{_<_};
 ghost use Rattle.checks.specs.Checks.{verdict};
 ghost use Rattle.seen.specs.Seen.{seen, There};
+ghost use Rattle.entries.specs.Values.{countAt};
 ghost use Rattle.logluv_format.specs.Profile.{SlotsThere, EntryThere, kindChecks, plainChecks, numberChecks, eachIs, threeChecks, depthChecks, sideChecks, tileChecks, stripChecks, layoutChecks, shapeOf, Sound, countedOf, Sided, carries, listChecks, sampleChecks, segmentsFound, blocksFound, profileFound};
 
 pub enum Profile {
@@ -106,14 +107,14 @@ fn check_numbers(n: Numbers, extra: usize, max_dimension: usize) -> Verdict
     }
 }
 
-// The first three values of an entry, in order: outside 1, not arrived 8, another number than wanted 3.
+// The three values of an entry, in order: outside 1, not arrived 8, another number than wanted 3.
 fn check_each(file: &[u8], map: &[u8], big: bool, entry: usize, wanted: usize) -> Verdict
-    requires { ⌜ There (seen (now file) (now map)) entry 12 ⌝ }
+    requires { ⌜ There (seen (now file) (now map)) entry 12 × (countAt (seen (now file) (now map)) big entry ≡ 3) ⌝ }
     ensures { λ r. ⌜ r ≡ verdict (eachIs (seen (now (file .entry)) (now (map .entry))) big entry wanted 0 3) ⌝ }
 {
     let mut i: usize = 0;
     while i < 3 {
-        match tiff::values::value_at(file, map, big, entry, i) {
+        match entries::value_at(file, map, big, entry, i) {
             Value::Outside => {
                 return Verdict::Refused(TRUNCATED);
             }
@@ -139,7 +140,7 @@ fn is_list(file: &[u8], map: &[u8], big: bool, entry: usize, n: usize) -> bool
     if entry == 0 {
         return false;
     }
-    tiff::values::has_values(file, map, big, entry, n)
+    entries::has_values(file, map, big, entry, n)
 }
 
 // Three values of one number.
@@ -273,8 +274,8 @@ fn count_segments(s: Shape, max_segments: usize, max_output: usize) -> Counted
     let height = s.height;
     let block_width = s.block_width;
     let block_height = s.block_height;
-    let across = tiff::geometry::pieces_of(width, block_width);
-    let down = tiff::geometry::pieces_of(height, block_height);
+    let across = geometry::pieces_of(width, block_width);
+    let down = geometry::pieces_of(height, block_height);
     match checks::product(across, down) {
         Size::Over => Counted::Refused(LIMIT),
         Size::Fits(segments) => {
@@ -396,7 +397,7 @@ fn check_samples(
 }
 
 // The eight steps.
-pub(crate) fn read_profile(
+pub fn read_profile(
     file: &[u8],
     map: &[u8],
     big: bool,

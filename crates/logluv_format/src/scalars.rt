@@ -71,7 +71,7 @@ fn is_fine(file: &[u8], map: &[u8], big: bool, slots: [usize; 19], slot: usize) 
     if entry == 0 {
         return true;
     }
-    tiff::values::has_values(file, map, big, entry, 1)
+    entries::has_values(file, map, big, entry, 1)
 }
 
 // Every scalar slot, ascending.
@@ -98,7 +98,7 @@ fn number_of(file: &[u8], map: &[u8], big: bool, slots: [usize; 19], slot: usize
     if entry == 0 {
         return default_of(slot);
     }
-    tiff::values::scalar(file, map, big, entry)
+    entries::scalar(file, map, big, entry)
 }
 
 pub(crate) fn read_numbers(file: &[u8], map: &[u8], big: bool, slots: [usize; 19]) -> Numbers

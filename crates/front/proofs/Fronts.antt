@@ -23,14 +23,14 @@ use Rattle.tiff.proofs.Places as places
 use Rattle.tiff.specs.declared.header.Start.{Start}
 use Rattle.tiff.specs.declared.header.Start.the-variants as start-is
 use Rattle.tiff.specs.declared.directory.Directory.{Directory}
 use Rattle.logluv_format.specs.Profile.{profileChecks, profiled, formatOf, SlotsThere}
-use Rattle.logluv_format.specs.Front.{paidChecks, foundPaid, paidAt, pageChecks, foundPage, frontChecks, foundOf}
+use Rattle.front.specs.Front.{paidChecks, foundPaid, paidAt, pageChecks, foundPage, frontChecks, foundOf}
 use Rattle.logluv_format.specs.declared.Format.{Format}
-use Rattle.logluv_format.specs.declared.Found.{Found}
-use Rattle.logluv_format.specs.declared.Found.the-variants.{Refused, Picture}
+use Rattle.front.specs.declared.Found.{Found}
+use Rattle.front.specs.declared.Found.the-variants.{Refused, Picture}
 use Rattle.logluv_format.specs.declared.profile.Profile.{Profile}
 use Rattle.logluv_format.specs.declared.profile.Profile.the-variants as profile-is
 use Rattle.logluv_format.proofs.Formats.{profile-free}
 
 -- what a profile's answer says of its checks
 refused-picture : (e : ℕ) (f : Format) → profile-is.Refused e ≡ profile-is.Picture f → ⊥

@@ -1,7 +1,7 @@
 -- The charge comes first; the profile charges nothing, so the units after it are what the charge left.
-use Rattle.logluv_format.proofs.Fronts.{fronts}
-use Rattle.logluv_format.proofs.read_paid.Statement.{statement}
-use Rattle.logluv_format.proofs.read_paid.Tie as tie
+use Rattle.front.proofs.Fronts.{fronts}
+use Rattle.front.proofs.read_paid.Statement.{statement}
+use Rattle.front.proofs.read_paid.Tie as tie
 
 returns : tie.Need-returns
 returns c = search fronts

@@ -10,10 +10,10 @@ use Rattle.tiff.specs.Header.{headerChecks, big, firstOf}
 use Rattle.tiff.specs.Directory.{entriesAt, slotsAt}
 use Rattle.tiff.specs.Walk.{walkChecks, pageAt}
 use Rattle.tiff.specs.declared.Limits.{Limits}
 use Rattle.logluv_format.specs.Profile.{profileChecks, formatOf}
 use Rattle.logluv_format.specs.declared.Format.{Format}
-use Rattle.logluv_format.specs.declared.Found.{Found}
-use Rattle.logluv_format.specs.declared.Found.the-variants.{Refused, Picture}
+use Rattle.front.specs.declared.Found.{Found}
+use Rattle.front.specs.declared.Found.the-variants.{Refused, Picture}
 
 abbrev pub found : Told → Format → Found
 found (told-is.Passed u) f = Picture f u
