@@ -13,7 +13,7 @@ use borrow.Author.Needs.{needs}
 use borrow.Author.Tests.{lt-ltb, le-ltb, eq-eqb, ne-eqb, eqb-true, eqb-false, leb-true}
 use Rattle.lists.specs.Lists.{pick, overlay}
 use Rattle.checks.specs.Numbers.{truncated, invalid}
-use Rattle.checks.specs.Checks.{Check, must, verdict, Holds}
+use Rattle.checks.specs.Checks.{Check, must, verdict, Holds, cost}
 use Rattle.checks.specs.declared.Verdict.{Verdict}
 use Rattle.checks.specs.declared.Verdict.the-variants.{Fine, Refused}
 use Rattle.checks.proofs.Exact.{fine}
@@ -101,6 +101,13 @@ module _ (stride left room len : ℕ) (some : 0 < stride) (is : room ≡ roomOf 
 
   pub room-left : (room - len ≡ 0 → ⊥) → room - len ≡ roomOf stride (left - len)
   room-left z = sym (room-moves ∙ simp (ne-eqb _ _ z))
+
+-- packets charge nothing
+pub packets-free : (stride : ℕ) (p : List ℕ) (skip left : ℕ) → cost (packetChecks stride p skip left) ≡ 0
+unfolding packetChecks cost
+packets-free stride [] skip left = refl
+packets-free stride (n ∷ rest) (suc skip) left = packets-free stride rest skip left
+packets-free stride (n ∷ rest) zero left = packets-free stride rest (payloadOf n) (left - lenOf n)
 
 -- to skip bytes is to drop them
 skip-drop : (stride : ℕ) (xs : List ℕ) (k left : ℕ) → packetChecks stride xs k left ≡ packetChecks stride (drop k xs) 0 left

@@ -71,7 +71,7 @@ fn next_room(stride: usize, left: usize, room: usize, len: usize) -> usize
 }
 
 // The packets of a range, checked one after the other.
-fn check_part(p: &[u8], stride: usize, needed: usize) -> Verdict
+pub fn check_part(p: &[u8], stride: usize, needed: usize) -> Verdict
     requires { ⌜ 0 < stride ⌝ }
     ensures { λ r. ⌜ r ≡ verdict (packetChecks stride (now (p .entry)) 0 needed) ⌝ }
 {
@@ -209,7 +209,7 @@ impl Cursor {
 }
 
 // What accepted packets stand for, over the front of a buffer, one byte a step.
-fn expand_part(p: &[u8], needed: usize, out: &mut [u8])
+pub fn expand_part(p: &[u8], needed: usize, out: &mut [u8])
     requires { ⌜ Accepted (now p) needed × (needed ≤ length (now out)) ⌝ }
     ensures { λ _. ⌜ now (out .exit) ≡ overlay (expand (now (p .entry)) 0) (now (out .entry)) ⌝ }
 {
