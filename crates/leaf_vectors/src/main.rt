@@ -114,13 +114,13 @@ fn run_packets(h: Head, input: &[u8], out: &mut [u8]) {
 }
 
 fn run_planes(h: Head, input: &[u8], out: &mut [u8]) {
-    say(logluv_segment::luv::convert(input, h.a, h.b, out));
+    say(luv::convert(input, h.a, h.b, out));
     show(out);
 }
 
 fn say_uv(x: u8) {
     io::write_all(STDOUT_FILENO, b" ");
-    io::print_decimal(STDOUT_FILENO, logluv_segment::luv::expand_uv(x) as u64);
+    io::print_decimal(STDOUT_FILENO, luv::expand_uv(x) as u64);
 }
 
 // No buffer here: uv of each byte of the input by itself.

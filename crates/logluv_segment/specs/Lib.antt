@@ -1,2 +1,3 @@
-pub mod Luv
 pub mod Fee
+pub mod Segment
+pub mod Shown

@@ -1,0 +1,20 @@
+-- What the checks of segments charge: the sum of their fees.
+use Prim.Native.Nat.{ℕ, zero, suc}
+use mathlib.Core.Path.{_≡_, refl, _∙_}
+use native.Mathlib.Omega.{arith}
+use Rattle.checks.specs.Checks.{cost}
+use Rattle.checks.proofs.Exact.{cost-then}
+use Rattle.seen.specs.Seen.{Seen}
+use Rattle.logluv_format.specs.declared.Format.{Format}
+use Rattle.logluv_segment.specs.Segment.{feeOf, planChecks, feeChecks, segmentChecks, eachSegment, feesOf}
+use Rattle.logluv_segment.proofs.Checking.{plan-free, stored-free}
+
+module _ (v : Seen) (f : Format) (maxOutput : ℕ) where
+  pub segment-cost : (k : ℕ) → cost (segmentChecks v f maxOutput k) ≡ feeOf v f k
+  unfolding cost segmentChecks
+  segment-cost k = cost-then (planChecks v f maxOutput k) (feeChecks v f k) ∙ omega (arith, plan-free v f maxOutput k, stored-free v f k)
+
+  pub segments-cost : (n k : ℕ) → cost (eachSegment v f maxOutput k n) ≡ feesOf v f k n
+  unfolding cost eachSegment feesOf
+  segments-cost zero k = refl
+  segments-cost (suc n) k = cost-then (segmentChecks v f maxOutput k) (eachSegment v f maxOutput (suc k) n) ∙ rw (segment-cost k, segments-cost n (suc k))

@@ -1,0 +1,65 @@
+-- The place, the room and the fee are the plan's checks in their order.
+use Rattle.logluv_segment.proofs.Planning.{planning}
+use Rattle.logluv_segment.proofs.plan.plan_segment.Statement.{statement}
+use Rattle.logluv_segment.proofs.plan.plan_segment.Tie as tie
+
+locate-requires : tie.Need-locate-requires
+locate-requires c κs = search planning
+
+enum-known-e : tie.Need-enum-known-e
+enum-known-e c = search planning
+
+enum-known-offset : tie.Need-enum-known-offset
+enum-known-offset c = search planning
+
+area-of-requires : tie.Need-area-of-requires
+area-of-requires c κs = search planning
+
+mul-if1 : tie.Need-mul-if1
+mul-if1 c = search planning
+
+returns : tie.Need-returns
+returns c = search planning
+
+mul-sum : tie.Need-mul-sum
+mul-sum c = search planning
+
+add-sum : tie.Need-add-sum
+add-sum c = search planning
+
+sum-requires : tie.Need-sum-requires
+sum-requires c κs = search planning
+
+enum-told : tie.Need-enum-told
+enum-told c = search planning
+
+enum-known-fee : tie.Need-enum-known-fee
+enum-known-fee c = search planning
+
+returns-2 : tie.Need-returns-2
+returns-2 c = search planning
+
+returns-3 : tie.Need-returns-3
+returns-3 c = search planning
+
+returns-4 : tie.Need-returns-4
+returns-4 c = search planning
+
+pub plan-segment-spec : {M : Type 1} → statement M
+plan-segment-spec =
+    tie.close
+    (tie.spec
+    locate-requires
+    enum-known-e
+    enum-known-offset
+    area-of-requires
+    mul-if1
+    returns
+    mul-sum
+    add-sum
+    sum-requires
+    enum-told
+    enum-known-fee
+    returns-2
+    returns-3
+    returns-4)

@@ -1,0 +1,94 @@
+-- Each turn puts the pixels of one row where it belongs.
+use Rattle.luv.proofs.Scattering.{Scattering, scatters}
+use Prim.Native.Nat.{_-_}
+use Rattle.luv.proofs.scatter.Statement.{statement}
+use Rattle.luv.proofs.scatter.Tie as tie
+
+abbrev Inv-loop : tie.InvT-loop
+Inv-loop planes w n rows first pitch out₀ from-step size r₀ from₀ at₀ out r from at = Scattering w n rows first pitch planes out₀ out r from at
+
+abbrev μ-loop : tie.MeasureT-loop
+μ-loop planes w n rows first pitch out₀ from-step size r₀ from₀ at₀ out r from at = rows - r
+
+mul-from-step : tie.Need-mul-from-step Inv-loop μ-loop
+mul-from-step c = search scatters
+
+mul-size : tie.Need-mul-size Inv-loop μ-loop
+mul-size c = search scatters
+
+loop-holds : tie.Need-loop-holds Inv-loop μ-loop
+loop-holds c = search scatters
+
+add-from-end : tie.Need-add-from-end Inv-loop μ-loop
+add-from-end c = search scatters
+
+add-end : tie.Need-add-end Inv-loop μ-loop
+add-end c = search scatters
+
+sub-convert-row : tie.Need-sub-convert-row Inv-loop μ-loop
+sub-convert-row c = search scatters
+
+part-convert-row-start : tie.Need-part-convert-row-start Inv-loop μ-loop
+part-convert-row-start c = search scatters
+
+part-convert-row-end : tie.Need-part-convert-row-end Inv-loop μ-loop
+part-convert-row-end c = search scatters
+
+sub-convert-row-2 : tie.Need-sub-convert-row-2 Inv-loop μ-loop
+sub-convert-row-2 c = search scatters
+
+part-convert-row-start-2 : tie.Need-part-convert-row-start-2 Inv-loop μ-loop
+part-convert-row-start-2 c = search scatters
+
+part-convert-row-end-2 : tie.Need-part-convert-row-end-2 Inv-loop μ-loop
+part-convert-row-end-2 c = search scatters
+
+convert-row-requires : tie.Need-convert-row-requires Inv-loop μ-loop
+convert-row-requires c κs = search scatters
+
+add-from : tie.Need-add-from Inv-loop μ-loop
+add-from c = search scatters
+
+add-at : tie.Need-add-at Inv-loop μ-loop
+add-at c = search scatters
+
+add-r : tie.Need-add-r Inv-loop μ-loop
+add-r c = search scatters
+
+loop-less : tie.Need-loop-less Inv-loop μ-loop
+loop-less c = search scatters
+
+loop-again : tie.Need-loop-again Inv-loop μ-loop
+loop-again c = search scatters
+
+same-length : tie.Need-same-length Inv-loop μ-loop
+same-length c = search scatters
+
+returns : tie.Need-returns Inv-loop μ-loop
+returns c = search scatters
+
+pub scatter-spec : {M : Type 1} → statement M
+scatter-spec =
+    tie.close
+    (tie.spec
+    Inv-loop
+    μ-loop
+    mul-from-step
+    mul-size
+    loop-holds
+    add-from-end
+    add-end
+    sub-convert-row
+    part-convert-row-start
+    part-convert-row-end
+    sub-convert-row-2
+    part-convert-row-start-2
+    part-convert-row-end-2
+    convert-row-requires
+    add-from
+    add-at
+    add-r
+    loop-less
+    loop-again
+    same-length
+    returns)

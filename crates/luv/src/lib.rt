@@ -1,0 +1,131 @@
+// Luv samples: uv, one pixel, a row of pixels and all rows of a segment. Nothing else computes uv.
+use checks::LIMIT;
+use checks::OUTPUT_TOO_SMALL;
+use checks::Size;
+use checks::TRUNCATED;
+use checks::Verdict;
+ghost use mathlib.Core.Path.{_≡_};
+ghost use Prim.Native.Nat.{_*_, _<_, _≤_};
+ghost use lib.ListN.{length};
+ghost use Rattle.lists.specs.Lists.{overlay, spread};
+ghost use Rattle.checks.specs.Checks.{verdict};
+ghost use Rattle.checks.specs.Buffers.{afterwards};
+ghost use Rattle.luv.specs.Luv.{uv, pixel, rowPixels, pixels, rowShown, Roomy, Scatterable, convertChecks};
+
+fn wide(x: u8) -> u32
+    ensures { λ r. ⌜ (r ≡ x) × (r < 256) ⌝ }
+{
+    x as u32
+}
+
+pub fn expand_uv(x: u8) -> u16
+    ensures { λ r. ⌜ r ≡ uv x ⌝ }
+{
+    let n = wide(x);
+    ((2 * n + 1) * 8192 / 205) as u16
+}
+
+fn put_pixel(d: &mut [u8], high: u8, low: u8, u: u8, v: u8)
+    requires { ⌜ length (now d) ≡ 6 ⌝ }
+    ensures { λ _. ⌜ now (d .exit) ≡ pixel high low u v ⌝ }
+{
+    let a = expand_uv(u);
+    let b = expand_uv(v);
+    d[0] = low;
+    d[1] = high;
+    d[2] = (a % 256) as u8;
+    d[3] = (a / 256) as u8;
+    d[4] = (b % 256) as u8;
+    d[5] = (b / 256) as u8;
+}
+
+// The first n pixels of a row of four planes of w bytes.
+fn convert_row(planes: &[u8], w: usize, n: usize, out: &mut [u8])
+    requires { ⌜ (4 * w ≤ length (now planes)) × (n ≤ w) × (length (now out) ≡ 6 * n) ⌝ }
+    ensures { λ _. ⌜ now (out .exit) ≡ rowPixels w n (now (planes .entry)) ⌝ }
+{
+    let mut i: usize = 0;
+    let mut o: usize = 0;
+    while i < n {
+        let e = o + 6;
+        put_pixel(
+            &mut out[o..e],
+            planes[i],
+            planes[w + i],
+            planes[2 * w + i],
+            planes[3 * w + i],
+        );
+        i += 1;
+        o = e;
+    }
+}
+
+// The first n pixels of each of so many rows of planes of width w, put into the picture: the first row at `first`, each further
+// one a pitch later.
+pub fn scatter(
+    planes: &[u8],
+    w: usize,
+    n: usize,
+    rows: usize,
+    first: usize,
+    pitch: usize,
+    out: &mut [u8],
+)
+    requires { ⌜ Scatterable w n rows first pitch (length (now planes)) (length (now out)) ⌝ }
+    ensures { λ _. ⌜ now (out .exit) ≡ spread (rowShown w n (now (planes .entry))) pitch 0 rows first (now (out .entry)) ⌝ }
+{
+    let from_step = 4 * w;
+    let size = 6 * n;
+    let mut r: usize = 0;
+    let mut from: usize = 0;
+    let mut at = first;
+    while r < rows {
+        let from_end = from + from_step;
+        let end = at + size;
+        convert_row(&planes[from..from_end], w, n, &mut out[at..end]);
+        from += from_step;
+        at += pitch;
+        r += 1;
+    }
+}
+
+fn convert_rows(planes: &[u8], w: usize, rows: usize, out: &mut [u8])
+    requires { ⌜ Roomy w rows (length (now planes)) (length (now out)) ⌝ }
+    ensures { λ _. ⌜ now (out .exit) ≡ overlay (pixels w rows (now (planes .entry))) (now (out .entry)) ⌝ }
+{
+    let from_step = 4 * w;
+    let to_step = 6 * w;
+    let mut r: usize = 0;
+    let mut from: usize = 0;
+    let mut to: usize = 0;
+    while r < rows {
+        let from_end = from + from_step;
+        let to_end = to + to_step;
+        convert_row(&planes[from..from_end], w, w, &mut out[to..to_end]);
+        from = from_end;
+        to = to_end;
+        r += 1;
+    }
+}
+
+// Refused, in this order: more than 2^64-1 bytes of pixels with 4, planes short with 1, out short with 6.
+pub fn convert(planes: &[u8], w: usize, rows: usize, out: &mut [u8]) -> Verdict
+    ensures answer { λ r. ⌜ r ≡ verdict (convertChecks w rows (length (now (planes .entry))) (length (now (out .entry)))) ⌝ }
+    ensures buffer { λ r. ⌜ now (out .exit) ≡ afterwards r (pixels w rows (now (planes .entry))) (now (out .entry)) ⌝ }
+{
+    let Size::Fits(size) = checks::product3(rows, 6, w) else {
+        return Verdict::Refused(LIMIT);
+    };
+    // No pixels, in however many rows.
+    if size == 0 {
+        return Verdict::Fine;
+    }
+    if planes.len() < size / 6 * 4 {
+        return Verdict::Refused(TRUNCATED);
+    }
+    if out.len() < size {
+        return Verdict::Refused(OUTPUT_TOO_SMALL);
+    }
+    convert_rows(planes, w, rows, out);
+    Verdict::Fine
+}
