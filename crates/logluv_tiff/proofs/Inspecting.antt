@@ -1,0 +1,161 @@
+-- Strict inspection: the walk over the segments, the handle after it, and what comes before them.
+use Prim.Native.Nat.{ℕ, suc, _+_, _-_, _*_, _<_, _≤_}
+use mathlib.Core.Path.{_≡_, refl, sym, _∙_}
+use mathlib.Core.Bool.{Bool, false}
+use mathlib.Core.List.{List, _++_}
+use native.Mathlib.Omega.{arith}
+use native.Mathlib.Nat.{sub-zero, mul-le-mul}
+use native.Mathlib.Numerals.{add-one}
+use mir.Syntax.{w64}
+use mir.Val.{Fits}
+use borrow.Author.Needs.{needs}
+use Rattle.checks.specs.Checks.{Check, run, verdict, cost}
+use Rattle.checks.specs.declared.Told.{Told}
+use Rattle.checks.specs.declared.Told.the-variants.{Refused, Passed}
+use Rattle.checks.specs.declared.Verdict.{Verdict}
+use Rattle.checks.specs.declared.Verdict.the-variants as verdict-is
+use Rattle.checks.proofs.Exact.{Exact, accepted, then, stops}
+use Rattle.checks.proofs.Rules.{ended-free, onward-free}
+use Rattle.seen.specs.Seen.{Seen}
+use Rattle.tiff.specs.Header.{limitChecks}
+use Rattle.tiff.specs.declared.Limits.{Limits}
+use Rattle.front.specs.Front.{found, frontChecks, formatSeen, foundOf}
+use Rattle.logluv_format.specs.Readable.{Valid, Readable}
+use Rattle.logluv_format.specs.declared.Format.{Format}
+use Rattle.front.specs.declared.Found.{Found}
+use Rattle.front.specs.declared.Found.the-variants as found-is
+use Rattle.front.proofs.Accepted.{readable}
+use Rattle.logluv_segment.specs.Segment.{segmentChecks, eachSegment}
+use Rattle.logluv_segment.proofs.Fees.{segments-cost}
+use Rattle.logluv_tiff.specs.Strict.{scratchOf, handleWith, inspected, segmentsChecks, workOf, handleIn, handleOf, pictureChecks, inspectChecks, inspectedOf, sameHandle, isHandle}
+use Rattle.logluv_tiff.specs.declared.Handle.{Handle}
+use Rattle.logluv_tiff.specs.declared.Inspected.{Inspected}
+use Rattle.logluv_tiff.specs.declared.Inspected.the-variants as inspected-is
+
+-- k segments are checked: what is left of the list decides as the whole does
+pub record Checking (v : Seen) (f : Format) (maxOutput left k rest : ℕ) : Type 0 where
+  pub within : k ≤ f .segments
+  pub same : run (segmentsChecks v f maxOutput) left ≡ run (eachSegment v f maxOutput k (f .segments - k)) rest
+
+pub checking-none : (v : Seen) (f : Format) (maxOutput left : ℕ) → Checking v f maxOutput left 0 left
+unfolding segmentsChecks
+checking-none v f maxOutput left = record { within = omega arith; same = rw (sub-zero (f .segments)) }
+
+module _ (v : Seen) (f : Format) (maxOutput left k rest : ℕ) (s : Checking v f maxOutput left k rest) where
+  module _ (h : k < f .segments) where
+    after : List Check
+    after = eachSegment v f maxOutput (k + 1) (f .segments - (k + 1))
+
+    opened : run (segmentsChecks v f maxOutput) left ≡ run (segmentChecks v f maxOutput k ++ after) rest
+    unfolding eachSegment after
+    opened =
+        let e : f .segments - k ≡ suc (f .segments - (k + 1)) = omega arith in
+        s .same ∙ rw (e, add-one k)
+
+    module _ {r : Told} (er : r ≡ run (segmentChecks v f maxOutput k) rest) where
+      pub segment-refused : (e u : ℕ) → r ≡ Refused e u → Refused e u ≡ run (segmentsChecks v f maxOutput) left
+      segment-refused e u q = sym (opened ∙ stops (segmentChecks v f maxOutput k) after rest e u (sym er ∙ q))
+
+      pub checking-more : (u : ℕ) → r ≡ Passed u → Checking v f maxOutput left (k + 1) u
+      unfolding after
+      checking-more u q = record { within = omega arith; same = opened ∙ then (segmentChecks v f maxOutput k) after rest u (sym er ∙ q) }
+
+  pub checking-all : f .segments ≤ k → Passed rest ≡ run (segmentsChecks v f maxOutput) left
+  unfolding run eachSegment
+  checking-all h =
+      let e : f .segments - k ≡ 0 = omega arith in
+      sym (s .same ∙ rw e)
+
+pub ruleset checking = (checking-none, segment-refused, checking-more, checking-all, needs)
+
+-- scratch is small, as the sides of a block are
+module _ (f : Format) (ok : Valid f) where
+  block-small : f .«block_width» * f .«block_height» ≤ 268435456
+  block-small = mul-le-mul {n₂ = 16384} {m₂ = 16384} (ok .block-width-allowed) (ok .block-height-allowed)
+
+  pub block-fits : Fits w64 (f .«block_width» * f .«block_height»)
+  block-fits = record { fits = omega (arith, block-small) }
+
+  pub scratch-fits : Fits w64 (scratchOf f)
+  scratch-fits = record { fits = omega (arith, block-small) }
+
+pub ruleset sizes = (block-fits, scratch-fits, needs)
+
+-- what the segments took is the sum of their fees
+module _ (v : Seen) (f : Format) (maxOutput left : ℕ) {r : Told} (er : r ≡ run (segmentsChecks v f maxOutput) left) where
+  pub segments-refused : (page e u : ℕ) → r ≡ Refused e u → inspected-is.Refused e u ≡ inspected (run (segmentsChecks v f maxOutput) left) (handleIn v f page)
+  segments-refused page e u q = rw (← er, q)
+
+  module _ (u : ℕ) (q : r ≡ Passed u) where
+    exact : Exact (segmentsChecks v f maxOutput) left u
+    exact = accepted (segmentsChecks v f maxOutput) left u .0 (sym er ∙ q)
+
+    cost-is : cost (segmentsChecks v f maxOutput) ≡ workOf v f
+    unfolding segmentsChecks
+    cost-is = segments-cost v f maxOutput (f .segments) 0
+
+    pub took : u ≤ left
+    took = omega (arith, exact .rest)
+
+    pub segments-passed : (page : ℕ) {h : Handle} → h ≡ handleWith f page (left - u) → inspected-is.Picture h u ≡ inspected (run (segmentsChecks v f maxOutput) left) (handleIn v f page)
+    segments-passed page e =
+        let w : left - u ≡ workOf v f = omega (arith, exact .covered, exact .rest, cost-is) in
+        rw (← er, q, e, w)
+
+pub ruleset handles = (segments-refused, took, segments-passed, needs)
+
+-- the front part, then the segments
+front-stops : (t : Told) (f : Format) (e u : ℕ) → found t f ≡ found-is.Refused e u → t ≡ Refused e u
+front-stops (Refused n w) f e u q = cc
+front-stops (Passed w) f e u q = let z : _≡_ {A = ℕ} 0 1 = cc in absurd (omega arith)
+
+front-passes : (t : Told) (g f : Format) (u : ℕ) → found t g ≡ found-is.Picture f u → (t ≡ Passed u) × (f ≡ g)
+front-passes (Passed w) g f u q = (cc, cc)
+front-passes (Refused n w) g f u q = let z : _≡_ {A = ℕ} 0 1 = cc in absurd (omega arith)
+
+module _ (v : Seen) (page : ℕ) (l : Limits) (left : ℕ) {r : Found} (er : r ≡ foundOf v page l left) where
+  pub front-refused : (e u : ℕ) → r ≡ found-is.Refused e u → inspected-is.Refused e u ≡ inspected (run (pictureChecks v page l) left) (handleOf v page)
+  unfolding pictureChecks
+  front-refused e u q =
+      let z = front-stops (run (frontChecks v page l) left) (formatSeen v page) e u (sym er ∙ q) in
+      rw (stops (frontChecks v page l) (segmentsChecks v (formatSeen v page) (l .«max_output»)) left e u z)
+
+  module _ (f : Format) (u : ℕ) (q : r ≡ found-is.Picture f u) where
+    pub format-readable : Readable v f
+    format-readable = readable v page l left u f (sym er ∙ q)
+
+    pub format-inspected : {i : Inspected} → i ≡ inspected (run (segmentsChecks v f (l .«max_output»)) u) (handleIn v f page) → i ≡ inspected (run (pictureChecks v page l) left) (handleOf v page)
+    unfolding pictureChecks
+    format-inspected e =
+        let z = front-passes (run (frontChecks v page l) left) (formatSeen v page) f u (sym er ∙ q) in
+        rw (then (frontChecks v page l) (segmentsChecks v (formatSeen v page) (l .«max_output»)) left u (z .0)) (rw (z .1) at e)
+
+pub ruleset pages = (front-refused, format-readable, format-inspected, needs)
+
+-- the limits before it
+limits-free : (size page : ℕ) (l : Limits) → cost (limitChecks size page l) ≡ 0
+unfolding cost
+limits-free size page l = refl
+
+module _ (v : Seen) (page : ℕ) (l : Limits) (left : ℕ) {r : Verdict} (er : r ≡ verdict (limitChecks (v .size) page l)) where
+  pub limits-refused : (e : ℕ) → r ≡ verdict-is.Refused e → inspected-is.Refused e left ≡ inspectedOf v page l left
+  unfolding inspectChecks
+  limits-refused e q = rw (← ended-free (limitChecks (v .size) page l) (pictureChecks v page l) left e (limits-free (v .size) page l) er q)
+
+  pub limits-passed : {i : Inspected} → r ≡ verdict-is.Fine → i ≡ inspected (run (pictureChecks v page l) left) (handleOf v page) → i ≡ inspectedOf v page l left
+  unfolding inspectChecks
+  limits-passed q e = rw (← onward-free (limitChecks (v .size) page l) (pictureChecks v page l) left (limits-free (v .size) page l) er q refl) e
+
+pub ruleset inspections = (limits-refused, limits-passed, needs)
+
+-- the handle that an inspection gives
+module _ (v : Seen) (l : Limits) (h : Handle) {r : Inspected} (er : r ≡ inspectedOf v (h .page) l 18446744073709551615) where
+  pub none-given : (e u : ℕ) → r ≡ inspected-is.Refused e u → false ≡ isHandle v l h
+  unfolding isHandle
+  none-given e u q = rw (← er, q)
+
+  pub compared : {b : Bool} (g : Handle) (u : ℕ) → r ≡ inspected-is.Picture g u → b ≡ sameHandle g h → b ≡ isHandle v l h
+  unfolding isHandle
+  compared g u q e = rw (← er, q) e
+
+pub ruleset given = (none-given, compared, needs)

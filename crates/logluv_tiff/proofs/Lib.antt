@@ -1,0 +1,5 @@
+pub mod Bounds
+pub mod Handles
+pub mod Inspecting
+pub mod Showing
+pub mod Claims

@@ -1,0 +1,70 @@
+// Strict decode over what is seen of a file: the handle, the buffers, the charge, then the picture.
+use crate::Handle;
+use crate::inspection;
+use crate::segments;
+use checks::INVALID;
+use checks::OUTPUT_TOO_SMALL;
+use checks::Told;
+use logluv_format::Format;
+use logluv_segment::paint;
+use tiff::Limits;
+ghost use mathlib.Core.Path.{_≡_};
+ghost use Prim.Native.Nat.{_≤_};
+ghost use lib.ListN.{length, replicate};
+ghost use Rattle.lists.specs.Lists.{overlay};
+ghost use Rattle.checks.specs.Checks.{run, onPass};
+ghost use Rattle.seen.specs.Seen.{seen};
+ghost use Rattle.logluv_segment.specs.Shown.{shown, pictureOf};
+ghost use Rattle.logluv_tiff.specs.Strict.{scratchOf, decodeChecks, PictureAccepted};
+
+// All segments, by way of the part of scratch that is needed, which is then zeroed.
+fn show_picture(
+    file: &[u8],
+    map: &[u8],
+    format: Format,
+    needed: usize,
+    output: &mut [u8],
+    scratch: &mut [u8],
+)
+    requires { ⌜ PictureAccepted (seen (now file) (now map)) format × (needed ≡ scratchOf format) × (needed ≤ length (now scratch)) × (format .output ≤ length (now output)) ⌝ }
+    ensures picture { λ _. ⌜ now (output .exit) ≡ overlay (pictureOf format (shown (seen (now (file .entry)) (now (map .entry))) format)) (now (output .entry)) ⌝ }
+    ensures cleared { λ _. ⌜ now (scratch .exit) ≡ overlay (replicate needed 0) (now (scratch .entry)) ⌝ }
+{
+    segments::show_segments(file, map, format, &mut scratch[0..needed], output);
+    paint::clear(&mut scratch[0..needed]);
+}
+
+pub(crate) fn decode_seen(
+    file: &[u8],
+    map: &[u8],
+    limits: Limits,
+    handle: Handle,
+    left: usize,
+    output: &mut [u8],
+    scratch: &mut [u8],
+) -> Told
+    ensures answer { λ r. ⌜ r ≡ run (decodeChecks (seen (now (file .entry)) (now (map .entry))) limits handle (length (now (output .entry))) (length (now (scratch .entry)))) left ⌝ }
+    ensures picture { λ r. ⌜ now (output .exit) ≡ onPass r (overlay (pictureOf (handle .format) (shown (seen (now (file .entry)) (now (map .entry))) (handle .format))) (now (output .entry))) (now (output .entry)) ⌝ }
+    ensures cleared { λ r. ⌜ now (scratch .exit) ≡ onPass r (overlay (replicate (handle .scratch) 0) (now (scratch .entry))) (now (scratch .entry)) ⌝ }
+{
+    if !inspection::is_handle(file, map, limits, handle) {
+        return Told::Refused(INVALID, left);
+    }
+    let format = handle.format;
+    let size = format.output;
+    let needed = handle.scratch;
+    let work = handle.work;
+    if output.len() < size {
+        return Told::Refused(OUTPUT_TOO_SMALL, left);
+    }
+    if scratch.len() < needed {
+        return Told::Refused(OUTPUT_TOO_SMALL, left);
+    }
+    match checks::spend(left, work) {
+        Told::Refused(e, u) => Told::Refused(e, u),
+        Told::Passed(u) => {
+            show_picture(file, map, format, needed, output, scratch);
+            Told::Passed(u)
+        }
+    }
+}
