@@ -4,10 +4,10 @@ use mathlib.Core.List.{map}
 use Rattle.lists.specs.Lists.{span, joined, perRow}
 use Rattle.lists.specs.Sums.{back}
 use Rattle.checks.specs.Checks.{verdict}
-use Rattle.tiff.specs.Geometry.{rowsOf, byteSegment, byteLocal}
+use Rattle.geometry.specs.Geometry.{rowsOf, byteSegment, byteLocal}
 use Rattle.logluv_format.specs.Profile.{defaults, number as slotNumber, shapeOf}
 use Rattle.logluv.specs.Packets.{lenOf, payloadOf, roomOf, packetChecks, piece, expand, rangeChecks}
-use Rattle.logluv_segment.specs.Luv.{uv, pixel, pixelAt, rowPixels, pixels}
+use Rattle.luv.specs.Luv.{uv, pixel, pixelAt, rowPixels, pixels}
 use Rattle.float64.specs.Float64.{number, digits, word, value, sample, row64, samples}
 use Rattle.native_fp.specs.NativeFp.{summedRow, gatheredRow, summed, gathered}
 use Rattle.promises.specs.Marked.{Case, cases}

@@ -8,12 +8,12 @@ use Rattle.checks.specs.Numbers.{numberOf}
 use Rattle.checks.specs.Checks.{verdict}
 use Rattle.seen.specs.Seen.{seen}
 use Rattle.tiff.specs.Directory.{none}
-use Rattle.tiff.specs.Geometry.{rowsOf, byteSegment, byteLocal}
+use Rattle.geometry.specs.Geometry.{rowsOf, byteSegment, byteLocal}
 use Rattle.logluv_format.specs.Profile.{number, shapeOf, acrossOf, segmentsOf}
 use Rattle.logluv_format.specs.declared.scalars.Numbers.{Numbers}
 use Rattle.logluv_format.specs.declared.profile.Shape.{Shape}
 use Rattle.logluv.specs.Packets.{lenOf, rangeChecks, expand}
-use Rattle.logluv_segment.specs.Luv.{uv, pixels}
+use Rattle.luv.specs.Luv.{uv, pixels}
 use Rattle.logluv_segment.specs.Fee.{fee}
 use Rattle.float64.specs.Float64.{samples}
 use Rattle.native_fp.specs.NativeFp.{gathered}

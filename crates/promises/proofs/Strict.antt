@@ -1,0 +1,109 @@
+-- Strict inspection is exact: it gives its handle and leaves its units exactly if the picture is fine and the charge covered, and each
+-- refusal is that of the first check that fails.
+use Prim.Native.Nat.{ℕ, _-_, _<_, _≤_}
+use mathlib.Core.Path.{_≡_, refl, ap, _∙_}
+use mathlib.Core.Logic.{_↔_, Iff·trans}
+use mathlib.Core.List.{List, []}
+use native.Mathlib.Omega.{arith}
+use borrow.Author.Tests.{leb-true, le-leb, ltb-true, lt-ltb}
+use Rattle.checks.specs.Numbers.{notArrived}
+use Rattle.checks.specs.Checks.{run, Holds, cost, Never}
+use Rattle.checks.specs.declared.Told.{Told}
+use Rattle.checks.specs.declared.Told.the-variants as told-is
+use Rattle.checks.proofs.Exact.{Exact, accepted, both, cost-then, never, never-both}
+use Rattle.checks.proofs.Refusals.{RefusedAt, refused}
+use Rattle.seen.specs.Seen.{Seen, seen}
+use Rattle.seen.proofs.Alike.{whole-came}
+use Rattle.tiff.specs.Header.{limitChecks}
+use Rattle.tiff.specs.declared.Limits.{Limits}
+use Rattle.front.specs.Front.{frontChecks, formatSeen}
+use Rattle.front.proofs.Accepted.{front-holds, front-cost}
+use Rattle.front.proofs.Arrival.{never-front}
+use Rattle.logluv_tiff.specs.Strict.{segmentsChecks, handleOf, pictureChecks, inspectChecks, inspected, inspectedOf}
+use Rattle.logluv_tiff.specs.declared.Handle.{Handle}
+use Rattle.logluv_tiff.specs.declared.Inspected.the-variants.{Refused, Picture}
+use Rattle.promises.specs.Strict.{PictureFine, chargeOf, Inspects}
+use Rattle.logluv_segment.proofs.Fees.{segments-cost}
+use Rattle.promises.proofs.Segments.{segments-fine, never-segments}
+
+module _ (v : Seen) (page : ℕ) (l : Limits) where
+  limits-fine : Holds (limitChecks (v .size) page l) ↔ ((v .size ≤ l .«max_input») × (page < l .«max_directories»))
+  unfolding Holds
+  limits-fine = (
+    λ h. (leb-true (v .size) (l .«max_input») (h .0), ltb-true page (l .«max_directories») (h .1 .0)),
+    λ p. (le-leb (v .size) (l .«max_input») (p .0), (lt-ltb page (l .«max_directories») (p .1), tt)),
+  )
+
+  picture-fine : Holds (inspectChecks v page l) ↔ PictureFine v page l
+  unfolding inspectChecks pictureChecks segmentsChecks
+  picture-fine =
+      let f = formatSeen v page in
+      Iff·trans (both (limitChecks (v .size) page l) (pictureChecks v page l) limits-fine (both (frontChecks v page l) (segmentsChecks v f (l .«max_output»)) (front-holds v page l) (segments-fine v f (l .«max_output») (f .segments)))) (
+        λ p. record {
+          input-allowed = p .0 .0;
+          page-allowed = p .0 .1;
+          header = p .1 .0 .0;
+          directories = p .1 .0 .1 .0;
+          profile = p .1 .0 .1 .1;
+          each-segment = p .1 .1;
+        },
+        λ f. ((f .input-allowed, f .page-allowed), ((f .header, (f .directories, f .profile)), f .each-segment)),
+      )
+
+  picture-cost : cost (inspectChecks v page l) ≡ chargeOf v page
+  unfolding cost inspectChecks pictureChecks segmentsChecks
+  picture-cost =
+      let f = formatSeen v page in
+      cost-then (frontChecks v page l) (segmentsChecks v f (l .«max_output»))
+      ∙ rw (front-cost v page l, segments-cost v f (l .«max_output») (f .segments) 0)
+
+  module _ (u w : ℕ) where
+    passes : Exact (inspectChecks v page l) u w → Inspects v page l u w (handleOf v page)
+    passes x = record { fine = picture-fine .0 (x .holds); covered = omega (arith, picture-cost, x .covered); rest = x .rest ∙ rw picture-cost; handle-is = refl }
+
+    is-exact : (h : Handle) → Inspects v page l u w h → Exact (inspectChecks v page l) u w
+    is-exact h i = record { holds = picture-fine .1 (i .fine); covered = omega (arith, picture-cost, i .covered); rest = i .rest ∙ rw picture-cost }
+
+    -- it succeeds exactly if nothing that refuses is met, and has then charged the directories, 128 and the sum of fees, no more
+    pub inspection-exact : (h : Handle) → (inspectedOf v page l u ≡ Picture h w) ↔ Inspects v page l u w h
+    inspection-exact h = (λ e. by (run (inspectChecks v page l) u) refl e, λ i. rw (accepted (inspectChecks v page l) u w .1 (is-exact h i), i .handle-is))
+      where
+        by : (t : Told) → run (inspectChecks v page l) u ≡ t → inspected t (handleOf v page) ≡ Picture h w → Inspects v page l u w h
+        by (told-is.Passed x) e q =
+            let z : x ≡ w = cc in
+            let g : handleOf v page ≡ h = cc in
+            rw g at (passes (accepted (inspectChecks v page l) u w .0 (e ∙ ap told-is.Passed z)))
+        by (told-is.Refused n x) e q = let z : _≡_ {A = ℕ} 0 1 = cc in absurd (omega arith)
+
+    told-refused : (e : ℕ) → inspectedOf v page l u ≡ Refused e w → run (inspectChecks v page l) u ≡ told-is.Refused e w
+    told-refused e q = by (run (inspectChecks v page l) u) q
+      where
+        by : (t : Told) → inspected t (handleOf v page) ≡ Refused e w → t ≡ told-is.Refused e w
+        by (told-is.Passed x) q = let z : _≡_ {A = ℕ} 0 1 = cc in absurd (omega arith)
+        by (told-is.Refused n x) q = cc
+
+    -- it refuses exactly with the number of the first check that fails: the charges before stay taken, one that fails is not taken
+    pub inspection-refused : (e : ℕ) → (inspectedOf v page l u ≡ Refused e w) ↔ RefusedAt (inspectChecks v page l) u e w
+    inspection-refused e = Iff·trans (told-refused e, λ q. rw q) (refused (inspectChecks v page l) u e w)
+
+  -- so it answers exactly if the picture is fine and the units cover the charge
+  pub inspection-answers : (u : ℕ) → ((h : Handle) × (w : ℕ) × (inspectedOf v page l u ≡ Picture h w)) ↔ (PictureFine v page l × (chargeOf v page ≤ u))
+  inspection-answers u = (
+    λ (h, w, e). let i = inspection-exact u w h .0 e in (i .fine, i .covered),
+    λ p. (
+      handleOf v page,
+      u - chargeOf v page,
+      inspection-exact u (u - chargeOf v page) (handleOf v page) .1 (record { fine = p .0; covered = p .1; rest = refl; handle-is = refl }),
+    ),
+  )
+
+-- of a file that came whole nothing is missing
+pub never-missing-strict : (file : List ℕ) (page : ℕ) (l : Limits) (u w : ℕ) → inspectedOf (seen file []) page l u ≡ Refused notArrived w → ⊥
+unfolding Never inspectChecks pictureChecks segmentsChecks
+never-missing-strict file page l u w q =
+    let v = seen file [] in
+    let f = formatSeen v page in
+    never notArrived (inspectChecks v page l) u w
+    (never-both notArrived (limitChecks (v .size) page l) (pictureChecks v page l) (λ z. absurd (omega arith), (λ z. absurd (omega arith), tt))
+    (never-both notArrived (frontChecks v page l) (segmentsChecks v f (l .«max_output»)) (never-front v (whole-came file) page l) (never-segments v f (l .«max_output») (whole-came file) (f .segments) 0)))
+    (told-refused v page l u w notArrived q)
