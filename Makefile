@@ -14,6 +14,8 @@ vectors:
 	python3 tests/leaf_vectors.py --wrong
 	python3 tests/front_vectors.py
 	python3 tests/front_vectors.py --wrong
+	python3 tests/strict_vectors.py
+	python3 tests/strict_vectors.py --wrong
 
 format:
 	rt fmt

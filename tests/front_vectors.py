@@ -36,6 +36,7 @@ SCALARS = {0: 0, 1: 0, 3: 1, 4: 0, 5: 1, 7: 1, 8: 1, 9: 4294967295, 11: 1, 12: 1
 SIZES = {3: 2, 4: 4}
 
 Entry = collections.namedtuple('Entry', 'place tag kind count field')
+Format = collections.namedtuple('Format', 'width height tiled block_width block_height across segments output order offsets counts entries')
 
 # Arrival: a byte came if its block did, and all came where nothing is said of any block.
 def came(blocks, place):
@@ -188,18 +189,23 @@ def picture(r, page, limits):
             raise Refused(2)
         if array.count != segments:
             raise Refused(2)
-    return ' %d x %d, %s %d x %d, %d across, %d segments, %d bytes, %s, offsets %d, counts %d, entries %d' % (
-        width, height, 'tiles' if tiled else 'strips', block_width, block_height, across, segments, output,
-        'big' if r.order == 'big' else 'little', offsets.place, counts.place, n)
+    return Format(width, height, tiled, block_width, block_height, across, segments, output, r.order, offsets, counts, n)
 
-# What the program writes of a record.
+# What the program writes of a picture's sizes, of its format, and of a record.
+def sizes_of(f):
+    return ' %d x %d, %s %d x %d, %d across, %d segments, %d bytes' % (
+        f.width, f.height, 'tiles' if f.tiled else 'strips', f.block_width, f.block_height, f.across, f.segments, f.output)
+
+def format_of(f):
+    return '%s, %s, offsets %d, counts %d, entries %d' % (sizes_of(f), f.order, f.offsets.place, f.counts.place, f.entries)
+
 def line(kind, record):
     if kind == 'range':
         return '%-16s %s' % (record.tag, reach(record.size, record.blocks, record.start, record.count))
     r = Reading(record.file, record.blocks, record.budget)
     try:
         limited(len(record.file), record.page, record.limits)
-        said = picture(r, record.page, record.limits)
+        said = format_of(picture(r, record.page, record.limits))
     except Refused as why:
         said = ' refused %d' % why.args[0]
     return '%-16s%s, left %d' % (record.tag, said, r.left)
@@ -1524,7 +1530,7 @@ WRONG = (
     ('only the counts', 'for array in (offsets, counts):', 'for array in (offsets, counts) if offsets is None else (counts,):'),
     ('the arrays must be inside', '        if array.count != segments:\n',
      '        if array.count > 1:\n            r.part(r.number(array.field), array.count * SIZES[array.kind])\n        if array.count != segments:\n'),
-    ('offsets and counts swapped', 'offsets.place, counts.place, n)', 'counts.place, offsets.place, n)'),
+    ('offsets and counts swapped', 'r.order, offsets, counts, n)', 'r.order, counts, offsets, n)'),
     ('tiles by the strips\' slots', "(slots.get(15), slots.get(16)) if tiled else", "(slots.get(6), slots.get(10)) if tiled else"),
     ('a refusal gives the units back', "return '%-16s%s, left %d' % (record.tag, said, r.left)",
      "return '%-16s%s, left %d' % (record.tag, said, record.budget if said.startswith(' refused') else r.left)"),

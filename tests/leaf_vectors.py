@@ -414,11 +414,11 @@ def packets_edges():
             yield plain('cut-%s-s%d' % (''.join(map(str, lengths)), stride), made, stride, 5)
 
 # Sequences that are right by the way they are made: packets that fill what is needed and stop at each boundary.
-def good(draw, needed, stride):
+def good(draw, needed, stride, lengths=(1, 1, 2, 3, 4, 9, 40, 127, 128, 129)):
     made, left = b'', needed
     while left:
         room = left % stride or stride
-        n = min(room, draw.of((1, 1, 2, 3, 4, 9, 40, 127, 128, 129)))
+        n = min(room, draw.of(lengths))
         if n > 127 or n > 1 and draw.below(2):
             made += run(n, draw.below(256))
         else:
