@@ -6,7 +6,7 @@ use mathlib.Core.Bool.{Bool, true, false}
 use lib.ListN.{length, getD}
 use lib.Dec.{ltb, leb, eqb}
 use Rattle.lists.specs.Lists.{pick}
-use Rattle.checks.specs.Numbers.{truncated, notArrived}
+use Rattle.checks.specs.Numbers.{truncated, notArrived, mapSize}
 use Rattle.checks.specs.Checks.{Check, must}
 use Rattle.seen.specs.declared.Reach.{Reach}
 use Rattle.seen.specs.declared.Reach.the-variants.{Inside, Outside, Missing}
@@ -20,9 +20,16 @@ pub record Seen : Type 0 where
 abbrev pub blockOf : ℕ → ℕ
 blockOf i = i / 512
 
+abbrev pub blocksIn : ℕ → ℕ
+blocksIn size = (size + 511) / 512
+
 -- the map has one byte a block: 1 for arrived, all else not
 unfoldable pub blockCame : List ℕ → ℕ → Bool
 blockCame map b = eqb (getD map b 0) 1
+
+-- a map is as long as the file has blocks; one of length 0 stands for a file that came whole
+abbrev pub mapChecks : ℕ → ℕ → List Check
+mapChecks size n = must (pick (eqb n 0) true (eqb n (blocksIn size))) mapSize ∷ []
 
 -- no map is lent where all of a file is at hand
 unfoldable pub arrived : List ℕ → ℕ → Bool

@@ -4,7 +4,7 @@ ghost use mathlib.Core.Path.{_≡_};
 ghost use Prim.Native.Nat.{_-_, _<_};
 ghost use lib.ListN.{length};
 ghost use Rattle.checks.specs.Checks.{verdict};
-ghost use Rattle.seen.specs.Seen.{seen, blockCame, arrived, whole, reachOf, there, There, two, four};
+ghost use Rattle.seen.specs.Seen.{seen, mapChecks, blockCame, arrived, whole, reachOf, there, There, two, four};
 
 // Where the bytes asked for are: in the file and arrived, not all in the file, or in it and not all arrived.
 pub enum Reach {
@@ -72,6 +72,20 @@ pub fn need(file: &[u8], map: &[u8], start: usize, n: usize) -> Verdict
         Reach::Inside => Verdict::Fine,
         Reach::Outside => Verdict::Refused(checks::TRUNCATED),
         Reach::Missing => Verdict::Refused(checks::NOT_ARRIVED),
+    }
+}
+
+// Whether a map has the length that a file asks for, else 9. No map stands for a file that came whole.
+pub fn check_map(file: &[u8], map: &[u8]) -> Verdict
+    ensures { λ r. ⌜ r ≡ verdict (mapChecks (length (now (file .entry))) (length (now (map .entry)))) ⌝ }
+{
+    if map.len() == 0 {
+        return Verdict::Fine;
+    }
+    if map.len() == (file.len() + 511) / 512 {
+        Verdict::Fine
+    } else {
+        Verdict::Refused(checks::MAP_SIZE)
     }
 }
 
