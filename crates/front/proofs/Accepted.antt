@@ -460,3 +460,10 @@ module _ (v : Seen) (page : ℕ) (l : Limits) where
     readable f e =
         let p = picture-found f .0 e in
         rw (p .1) (page-readable v (big v) (l .«max_tags») pageDirectory l (p .0 .directories .is-fine page (omega arith)) (p .0 .profile))
+
+-- so the tests of the front part alone, whatever the units, give a format that can be read
+pub front-readable : (v : Seen) (page : ℕ) (l : Limits) → Holds (frontChecks v page l) → Readable v (formatSeen v page)
+front-readable v page l h =
+    let fee = cost (frontChecks v page l) in
+    let p = accepted (frontChecks v page l) fee 0 .1 (record { holds = h; covered = omega arith; rest = omega arith }) in
+    readable v page l fee 0 (formatSeen v page) (ap (λ (t : Told). found t (formatSeen v page)) p)

@@ -1,7 +1,7 @@
 -- The front part: the charge before the profile, the page before it, the header before the page.
 use Prim.Native.Nat.{ℕ, _-_, _<_, _≤_}
 use mathlib.Core.Path.{_≡_, refl, sym, _∙_}
-use mathlib.Core.List.{List}
+use mathlib.Core.List.{List, _++_}
 use mathlib.Core.Bool.{Bool}
 use native.Mathlib.Omega.{arith}
 use borrow.Author.Needs.{needs}
@@ -24,7 +24,7 @@ use Rattle.tiff.specs.declared.header.Start.{Start}
 use Rattle.tiff.specs.declared.header.Start.the-variants as start-is
 use Rattle.tiff.specs.declared.directory.Directory.{Directory}
 use Rattle.logluv_format.specs.Profile.{profileChecks, profiled, formatOf, SlotsThere}
-use Rattle.front.specs.Front.{paidChecks, foundPaid, paidAt, pageChecks, foundPage, frontChecks, foundOf}
+use Rattle.front.specs.Front.{found, paidChecks, foundPaid, paidAt, pageChecks, foundPage, frontChecks, formatSeen, foundOf}
 use Rattle.logluv_format.specs.declared.Format.{Format}
 use Rattle.front.specs.declared.Found.{Found}
 use Rattle.front.specs.declared.Found.the-variants.{Refused, Picture}
@@ -128,5 +128,23 @@ module _ (v : Seen) where
     header-at b first q e =
         let z = started b first (verdict (headerChecks v)) refl (sym er ∙ q) in
         rw (then (headerChecks v) after left left (run-fine (headerChecks v) left (header-free v) (z .passed))) (rw (z .order-is, z .first-is) at e)
+
+-- other checks after the front part: its refusal is theirs, and where it finds a format they go on with the units left
+ends : (t : Told) (f : Format) (e u : ℕ) → found t f ≡ Refused e u → t ≡ told-is.Refused e u
+ends (told-is.Refused n w) f e u q = cc
+ends (told-is.Passed w) f e u q = let z : _≡_ {A = ℕ} 0 1 = cc in absurd (omega arith)
+
+pub goes-on : (t : Told) (g f : Format) (u : ℕ) → found t g ≡ Picture f u → (t ≡ told-is.Passed u) × (f ≡ g)
+goes-on (told-is.Passed w) g f u q = (cc, cc)
+goes-on (told-is.Refused n w) g f u q = let z : _≡_ {A = ℕ} 0 1 = cc in absurd (omega arith)
+
+module _ (v : Seen) (page : ℕ) (l : Limits) (left : ℕ) {r : Found} (er : r ≡ foundOf v page l left) (cs : List Check) where
+  pub front-ends : (e u : ℕ) → r ≡ Refused e u → run (frontChecks v page l ++ cs) left ≡ told-is.Refused e u
+  front-ends e u q = stops (frontChecks v page l) cs left e u (ends (run (frontChecks v page l) left) (formatSeen v page) e u (sym er ∙ q))
+
+  pub front-goes-on : (f : Format) (u : ℕ) → r ≡ Picture f u → (run (frontChecks v page l ++ cs) left ≡ run cs u) × (f ≡ formatSeen v page)
+  front-goes-on f u q =
+      let z = goes-on (run (frontChecks v page l) left) (formatSeen v page) f u (sym er ∙ q) in
+      (then (frontChecks v page l) cs left u (z .0), z .1)
 
 pub ruleset fronts = (unpaid, profile-refused, profile-found, page-refused, page-slots, page-found, header-refused, header-at, needs)

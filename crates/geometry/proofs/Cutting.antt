@@ -5,7 +5,6 @@ use mathlib.Core.Bool.{Bool, true, false}
 use native.Mathlib.Omega.{arith}
 use native.Mathlib.Nat.{mul-comm, mul-le-mul-right, div-le-self, div-mul-le-self, div-add-mod', div-lt-iff-lt-mul, le-div-iff-mul-le, mod-lt}
 use lib.Arith.{digits-div, digits-mod}
-use lib.Dec.{ltb}
 use mir.Syntax.{w64}
 use mir.Val.{Fits}
 use borrow.Author.Needs.{needs}

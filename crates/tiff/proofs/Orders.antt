@@ -17,7 +17,8 @@ use Rattle.checks.specs.declared.Verdict.the-variants as verdict-is
 use Rattle.checks.proofs.Rules.{refused-there, fine-so-far}
 use Rattle.seen.specs.Seen.{Seen, seen, there, There, four}
 use Rattle.seen.proofs.Words.{byte-came, there-part, there-of}
-use Rattle.tiff.specs.Header.{begins, little, big, longLittle, longBig, orderChecks, headerChecks, start, startOf, firstOf}
+use Rattle.tiff.specs.Header.{limitChecks, begins, little, big, longLittle, longBig, orderChecks, headerChecks, start, startOf, firstOf}
+use Rattle.tiff.specs.declared.Limits.{Limits}
 use Rattle.tiff.specs.declared.header.Start.{Start}
 use Rattle.tiff.specs.declared.header.Start.the-variants.{Refused, At}
 
@@ -91,6 +92,11 @@ module _ (v : Seen) {r : Verdict} (er : r ≡ verdict (there v 0 8)) where
 pub ruleset headers = (there-of, header-refused, header-read, needs)
 
 -- the header charges nothing
+-- neither the limits on a file nor its header charge anything
+pub limits-free : (size page : ℕ) (l : Limits) → cost (limitChecks size page l) ≡ 0
+unfolding cost
+limits-free size page l = refl
+
 pub header-free : (v : Seen) → cost (headerChecks v) ≡ 0
 unfolding cost headerChecks orderChecks
 header-free v = refl

@@ -6,7 +6,6 @@ use native.Mathlib.Omega.{arith}
 use borrow.Author.Needs.{needs}
 use Rattle.logluv_format.proofs.scalars.default_of.Statement.{statement}
 use Rattle.logluv_format.proofs.scalars.default_of.Tie as tie
-use Rattle.logluv_format.proofs.scalars.default_of.Lts as lts
 
 mul-result : tie.Need-mul-result
 mul-result c = search needs
