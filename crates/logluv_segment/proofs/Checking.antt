@@ -1,5 +1,5 @@
 -- One segment of a strict inspection: the plan charges nothing, then the fee, then the packets of the stored bytes.
-use Prim.Native.Nat.{ℕ, _+_, _-_, _*_, _≤_}
+use Prim.Native.Nat.{ℕ, _+_, _-_, _*_, _<_}
 use mathlib.Core.Path.{_≡_, refl, sym, _∙_}
 use mathlib.Core.List.{List, [], _∷_}
 use native.Mathlib.Omega.{arith}
@@ -15,16 +15,15 @@ use Rattle.checks.proofs.Exact.{fine, holds-then, run-fine, run-refused}
 use Rattle.checks.proofs.Rules.{ended, onward, ended-free, onward-free}
 use Rattle.seen.specs.Seen.{Seen, seen, There}
 use Rattle.seen.proofs.Words.{bytes-there}
-use Rattle.geometry.proofs.Cutting.{rows-le}
 use Rattle.logluv.specs.Packets.{packetChecks}
 use Rattle.logluv.proofs.Laws.{packets-free}
 use Rattle.logluv_format.specs.declared.Format.{Format}
 use Rattle.logluv_format.specs.Readable.{Readable}
-use Rattle.logluv_segment.specs.Segment.{rowsIn, areaOf, offsetOf, countOf, placeChecks, roomChecks, planChecks, planOf, planIs, stored, storedChecks, feeChecks, segmentChecks, PlanFine}
+use Rattle.logluv_segment.specs.Segment.{areaOf, offsetOf, countOf, placeChecks, roomChecks, planChecks, planOf, planIs, stored, storedChecks, feeChecks, segmentChecks, Placed, PlanFine}
 use Rattle.logluv_segment.specs.declared.plan.Plan.{Plan}
 use Rattle.logluv_segment.specs.declared.plan.Planned.{Planned}
 use Rattle.logluv_segment.specs.declared.plan.Planned.the-variants as planned-is
-use Rattle.logluv_segment.proofs.Planning.{area-small, place-there}
+use Rattle.logluv_segment.proofs.Planning.{place-there}
 
 -- neither packets nor a plan charge anything
 module _ (v : Seen) (f : Format) where
@@ -37,13 +36,19 @@ module _ (v : Seen) (f : Format) where
   plan-free m k = refl
 
 -- the part of the file that is lent has the stored bytes
-pub packets-told : (file map : List ℕ) (f : Format) (k : ℕ) (p : Plan) {r : Verdict} → PlanFine (seen file map) f k p
-    → r ≡ verdict (packetChecks (f .«block_width») (take (p .offset + p .count - p .offset) (drop (p .offset) file)) 0 (4 * p .area))
-    → r ≡ verdict (storedChecks (seen file map) f k)
-unfolding storedChecks stored
-packets-told file map f k p ok e =
-    let q = rw add-sub-cancel-left at e in
-    rw (← ok .offset-is, ← ok .count-is, ← ok .area-is, bytes-there file map (p .count) (p .offset) (ok .range-there)) q
+module _ (file map : List ℕ) (f : Format) (k offset count : ℕ) (ok : Placed (seen file map) f k offset count) where
+  pub packets-told : {r : Verdict} (area : ℕ) → area ≡ areaOf f k
+      → r ≡ verdict (packetChecks (f .«block_width») (take (offset + count - offset) (drop offset file)) 0 (4 * area))
+      → r ≡ verdict (storedChecks (seen file map) f k)
+  unfolding storedChecks stored
+  packets-told area ea e =
+      let q = rw add-sub-cancel-left at e in
+      rw (← ok .offset-is, ← ok .count-is, ← ea, bytes-there file map count offset (ok .range-there)) q
+
+  pub some-stride : 0 < f .«block_width»
+  some-stride = ok .readable .valid .some-block-width
+
+pub ruleset packets = (packets-told, some-stride, needs)
 
 -- the fee, then the packets
 module _ (v : Seen) (f : Format) (k : ℕ) (p : Plan) (ok : PlanFine v f k p) (left : ℕ) {r : Told} (er : r ≡ run (pay (p .fee) ∷ []) left) where
@@ -60,7 +65,7 @@ module _ (v : Seen) (f : Format) (k : ℕ) (p : Plan) (ok : PlanFine v f k p) (l
     pub packets-fine : t ≡ verdict-is.Fine → Passed u ≡ run (feeChecks v f k) left
     packets-fine z = paid (sym (run-fine (storedChecks v f k) u (stored-free v f k) (sym et ∙ z)))
 
-pub ruleset packets = (packets-told, fee-refused, packets-refused, packets-fine, needs)
+pub ruleset stored-packets = (fee-refused, packets-refused, packets-fine, needs)
 
 -- what the plan says of its checks
 module _ (v : Seen) (f : Format) (m k : ℕ) where
@@ -91,17 +96,11 @@ module _ (v : Seen) (f : Format) (m k : ℕ) where
       now-planned : (verdict (planChecks v f m k) ≡ verdict-is.Fine) × (p ≡ planOf v f k)
       now-planned = is-planned p (verdict (planChecks v f m k)) refl (sym er ∙ q)
 
-      pub plan-fine : Readable v f → PlanFine v f k p
-      plan-fine ok =
-          let low : areaOf f k ≤ 268435456 = area-small f k (rowsIn f k) (ok .valid) refl (rows-le (f .tiled) (f .height) (f .«block_height») (f .across) k) in
+      pub plan-fine : Readable v f → k < f .segments → PlanFine v f k p
+      plan-fine ok h =
           rw (now-planned .1) (record {
-            some-stride = ok .valid .some-block-width;
-            offset-is = refl;
-            count-is = refl;
-            area-is = refl;
+            placed = record { readable = ok; of-picture = h; offset-is = refl; count-is = refl; range-there = planned-there (now-planned .0) };
             fee-is = refl;
-            area-small = low;
-            range-there = planned-there (now-planned .0);
           })
 
       pub plan-passed : (left : ℕ) {t : Told} → t ≡ run (feeChecks v f k) left → t ≡ run (segmentChecks v f m k) left

@@ -13,7 +13,7 @@ use borrow.Author.Tests.{ltb-true, ltb-false, eqb-true, eqb-false, lt-ltb, le-lt
 use Rattle.lists.specs.Lists.{pick, overlay, spread}
 use Rattle.lists.proofs.Overlay.{length-span, getD-tabulate, overlay-length, overlay-new, overlay-old}
 use Rattle.lists.proofs.Rows.{Even, joined-at, perRow-at}
-use Rattle.geometry.proofs.Cutting.{below-rows, segment-row, segment-column, segment-in}
+use Rattle.geometry.proofs.Cutting.{below-rows, segment-row, segment-column}
 use Rattle.logluv_format.specs.declared.Format.{Format}
 use Rattle.logluv_format.specs.Readable.{Valid}
 use Rattle.luv.specs.Luv.{pixelAt, rowPixels, rowShown, pixels}
@@ -21,7 +21,7 @@ use Rattle.logluv_segment.specs.Segment.{rowsIn}
 use Rattle.logluv_segment.specs.Shown.{segmentAt, localAt, pictureOf, painted, visibleOf}
 use Rattle.logluv_segment.specs.declared.paint.Visible.{Visible}
 use Rattle.luv.proofs.Pixels.{rows-even, row-length, six-a-pixel}
-use Rattle.logluv_segment.proofs.Pictures.{picture-length, picture-at, pixel-segment, pixel-local, pixel-in}
+use Rattle.logluv_segment.proofs.Pictures.{picture-length, picture-at, output-segment, pixel-segment, pixel-local, pixel-in}
 use Rattle.logluv_segment.proofs.Placing.{columns-are, rows-are, first-is, visible-inside}
 use Rattle.lists.proofs.Spread.{Inside, spread-length, spread-in, spread-out}
 
@@ -204,8 +204,6 @@ module _ (f : Format) (new : ℕ → List ℕ) (old out : List ℕ) (k : ℕ) (s
           → pick (t && ltb (segmentAt f q) k) (getD (new (segmentAt f q)) (localAt f q) 0) (getD old q 0) ≡ getD (overlay (pictureOf f new) old) q 0
       by q true e =
           let i : q < f .output = ltb-true q (f .output) e in
-          let b = segment-in 6 (f .width) (f .height) (f .«block_width») (f .«block_height») (f .across) q (omega arith)
-          (valid .some-width) (valid .some-block-width) (valid .some-block-height) (valid .across-is) (omega (arith, valid .output-is)) in
-          rw (lt-ltb (segmentAt f q) k (omega (arith, b, valid .segments-are)))
+          rw (lt-ltb (segmentAt f q) k (omega (arith, output-segment f valid q i)))
           (sym (overlay-new (pictureOf f new) old q (omega (arith, picture-length f new)) ∙ picture-at f new q i))
       by q false e = sym (overlay-old (pictureOf f new) old q (omega (arith, ltb-false, picture-length f new)))

@@ -67,7 +67,7 @@ module _ (f : Format) (k : ℕ) (valid : Valid f) where
       let tall : y < f .height = omega (arith, rows-are f k) in
       omega (arith, start-inside, columns-are f k, first-is f k, valid .output-is, row-fits y (f .height) (f .width) tall)
 
-  pitch-inside : 6 * f .width ≤ f .output
+  pub pitch-inside : 6 * f .width ≤ f .output
   pitch-inside = omega (arith, valid .output-is, le-mul-of-pos-right (f .width) (valid .some-height))
 
   pub start-fits : Fits w64 (f .width) → Fits w64 (k % f .across * f .«block_width»)

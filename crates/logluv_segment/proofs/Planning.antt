@@ -3,7 +3,7 @@ use Prim.Native.Nat.{ℕ, _+_, _*_, _<_, _≤_}
 use mathlib.Core.Path.{_≡_, refl, sym, ap, _∙_}
 use mathlib.Core.List.{List, _++_}
 use native.Mathlib.Omega.{arith}
-use native.Mathlib.Nat.{mul-le-mul}
+use native.Mathlib.Nat.{mul-le-mul, mul-le-mul-left}
 use mir.Syntax.{w64}
 use mir.Val.{Fits}
 use borrow.Author.Needs.{needs}
@@ -14,7 +14,7 @@ use Rattle.checks.specs.declared.Size.{Size}
 use Rattle.checks.specs.declared.Size.the-variants as size-is
 use Rattle.checks.specs.declared.Verdict.{Verdict}
 use Rattle.checks.specs.declared.Verdict.the-variants as verdict-is
-use Rattle.checks.proofs.Exact.{holds-then, verdict-then, verdict-stops}
+use Rattle.checks.proofs.Exact.{fine, holds-then, verdict-then, verdict-stops}
 use Rattle.checks.proofs.Rules.{verdicts}
 use Rattle.checks.proofs.Sizes.{fits-is, over-is}
 use Rattle.seen.specs.Seen.{Seen, there, There}
@@ -27,7 +27,8 @@ use Rattle.geometry.proofs.Cutting.{cut-of, rows-le}
 use Rattle.entries.proofs.EntryValues.{valueVerdict, value-verdict, value-is}
 use Rattle.logluv_format.specs.declared.Format.{Format}
 use Rattle.logluv_format.specs.Readable.{Valid, Readable}
-use Rattle.logluv_segment.specs.Segment.{rowsIn, areaOf, offsetOf, countOf, placeChecks, placeIs, OffsetFound, feeOf, roomChecks, planChecks, planIs}
+use Rattle.logluv_segment.specs.Fee.{fee}
+use Rattle.logluv_segment.specs.Segment.{rowsIn, areaOf, scratchOf, offsetOf, countOf, placeChecks, placeIs, OffsetFound, feeOf, roomChecks, planChecks, planIs, Placed}
 use Rattle.logluv_segment.specs.declared.plan.Place.{Place}
 use Rattle.logluv_segment.specs.declared.plan.Place.the-variants as place-is
 use Rattle.logluv_segment.specs.declared.plan.Planned.the-variants as planned-is
@@ -51,6 +52,32 @@ module _ (f : Format) (k rows : ℕ) (ok : Valid f) (e : rows ≡ rowsIn f k) (l
   area-is = ap (λ (n : ℕ). f .«block_width» * n) e
 
 pub ruleset areas = (segment-cut, rows-low, area-small, area-fits, area-is, needs)
+
+-- the fee of an area, as a sum that may be over
+module _ (count area : ℕ) where
+  pub fee-told : {s : Size} → s ≡ within (count + (20 * area + 1)) → s ≡ within (fee count area)
+  fee-told e = let same : count + (20 * area + 1) ≡ fee count area = omega arith in rw same at e
+
+pub ruleset fees = (fee-told, needs)
+
+-- scratch is small, as the sides of a block are
+module _ (f : Format) (ok : Valid f) where
+  block-small : f .«block_width» * f .«block_height» ≤ 268435456
+  block-small = mul-le-mul {n₂ = 16384} {m₂ = 16384} (ok .block-width-allowed) (ok .block-height-allowed)
+
+  pub block-fits : Fits w64 (f .«block_width» * f .«block_height»)
+  block-fits = record { fits = omega (arith, block-small) }
+
+  pub scratch-fits : Fits w64 (scratchOf f)
+  scratch-fits = record { fits = omega (arith, block-small) }
+
+pub ruleset sizes = (block-fits, scratch-fits, needs)
+
+-- four bytes for each of a segment's area are within the ten for each pixel of a block
+pub area-in-block : (f : Format) (k : ℕ) → 4 * areaOf f k ≤ scratchOf f
+area-in-block f k =
+    let h : areaOf f k ≤ f .«block_width» * f .«block_height» = mul-le-mul-left (f .«block_width») (rows-low f k (rowsIn f k) refl) in
+    omega arith
 
 -- each segment has an offset and a count
 module _ (v : Seen) (f : Format) (k : ℕ) (ok : Readable v f) (h : k < f .segments) where
@@ -155,6 +182,16 @@ module _ (v : Seen) (f : Format) (k : ℕ) where
       let rest = holds-then (offsetEntry v f k) (countEntry v f k ++ range v f k) h .1 in
       holds-there v (offsetOf v f k) (countOf v f k) (holds-then (countEntry v f k) (range v f k) rest .1)
 
+  -- and so the stored bytes of a segment that is located can be read
+  pub now-placed : Readable v f → k < f .segments → {offset count : ℕ} → Located v f k offset count → Placed v f k offset count
+  now-placed ok h {offset} {count} a = record {
+    readable = ok;
+    of-picture = h;
+    offset-is = a .offset-is;
+    count-is = a .count-is;
+    range-there = rw (a .offset-is, a .count-is) (place-there (fine (placeChecks v f k) .0 (a .passed)));
+  }
+
 -- the plan
 module _ (v : Seen) (f : Format) (m k : ℕ) {r : Place} (er : r ≡ placeIs v f k) where
   pub place-refused : (e : ℕ) → r ≡ place-is.Refused e → planned-is.Refused e ≡ planIs v f m k
@@ -176,28 +213,28 @@ module _ (v : Seen) (f : Format) (m k : ℕ) {r : Place} (er : r ≡ placeIs v f
         let b : verdict-is.Refused limit ≡ verdict (roomChecks v f m k) = search verdicts in
         rw (place-passed, ← b)
 
-    module _ (h : 10 * area ≤ m) {s : Size} (es : s ≡ within (count + (20 * area + 1))) where
+    module _ (h : 10 * area ≤ m) {s : Size} (es : s ≡ within (fee count area)) where
       room : 10 * areaOf f k ≤ m
       room = rw ea at h
 
-      fee-is : count + (20 * area + 1) ≡ feeOf v f k
-      fee-is = rw (← here .count-is, ← ea) (omega arith)
+      fee-is : fee count area ≡ feeOf v f k
+      fee-is = rw (← here .count-is, ← ea)
 
       pub fee-over : s ≡ size-is.Over → planned-is.Refused limit ≡ planIs v f m k
       unfolding roomChecks
       fee-over z =
           let a = room in
-          let d : 18446744073709551615 < feeOf v f k = rw fee-is at (over-is (count + (20 * area + 1)) es z) in
+          let d : 18446744073709551615 < feeOf v f k = rw fee-is at (over-is (fee count area) es z) in
           let b : verdict-is.Refused limit ≡ verdict (roomChecks v f m k) = search verdicts in
           rw (place-passed, ← b)
 
-      pub fee-fits : (fee : ℕ) → s ≡ size-is.Fits fee → planned-is.Fine (record { offset = offset; count = count; area = area; fee = fee }) ≡ planIs v f m k
+      pub fee-fits : (n : ℕ) → s ≡ size-is.Fits n → planned-is.Fine (record { offset = offset; count = count; fee = n }) ≡ planIs v f m k
       unfolding roomChecks
-      fee-fits fee z =
-          let n = fits-is (count + (20 * area + 1)) fee es z in
+      fee-fits n z =
+          let t = fits-is (fee count area) n es z in
           let a = room in
-          let d : feeOf v f k ≤ 18446744073709551615 = rw fee-is at (n .small) in
+          let d : feeOf v f k ≤ 18446744073709551615 = rw fee-is at (t .small) in
           let b : verdict-is.Fine ≡ verdict (roomChecks v f m k) = search verdicts in
-          rw (place-passed, ← b, n .is, fee-is, ea, here .offset-is, here .count-is)
+          rw (place-passed, ← b, t .is, fee-is, here .offset-is, here .count-is)
 
 pub ruleset planning = (place-refused, room-short, fee-over, fee-fits, needs)

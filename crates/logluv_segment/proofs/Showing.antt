@@ -27,7 +27,7 @@ planes-length v f k h = expand-length (stored v f k) (4 * areaOf f k) (record { 
 module _ (file map : List ℕ) (f : Format) (k offset count area : ℕ) (ok : Showable (seen file map) f k offset count) (e : area ≡ areaOf f k) where
   stored-is : take (offset + count - offset) (drop offset file) ≡ stored (seen file map) f k
   unfolding stored
-  stored-is = rw (add-sub-cancel-left, ← ok .offset-is, ← ok .count-is) (sym (bytes-there file map count offset (ok .range-there)))
+  stored-is = rw (add-sub-cancel-left, ← ok .placed .offset-is, ← ok .placed .count-is) (sym (bytes-there file map count offset (ok .placed .range-there)))
 
   pub part-accepted : Accepted (take (offset + count - offset) (drop offset file)) (4 * area)
   unfolding storedChecks

@@ -1,5 +1,5 @@
 -- A segment of a picture: its two entries, its range, its fee and its packets, in order.
-use Prim.Native.Nat.{ℕ, zero, suc, _+_, _*_, _<_, _≤_}
+use Prim.Native.Nat.{ℕ, zero, suc, _+_, _*_, _<_}
 use mathlib.Core.Path.{_≡_}
 use mathlib.Core.List.{List, [], _∷_, _++_}
 use lib.Dec.{leb}
@@ -12,6 +12,7 @@ use Rattle.seen.specs.Seen.{Seen, there, There}
 use Rattle.geometry.specs.Geometry.{rowsOf}
 use Rattle.entries.specs.Values.{sizeOf, placeOf, valueAt}
 use Rattle.logluv_format.specs.declared.Format.{Format}
+use Rattle.logluv_format.specs.Readable.{Readable}
 use Rattle.logluv.specs.Packets.{packetChecks}
 use Rattle.logluv_segment.specs.Fee.{fee}
 use Rattle.logluv_segment.specs.declared.plan.Place.{Place}
@@ -27,6 +28,10 @@ module _ (f : Format) (k : ℕ) where
   -- A: block width × rows
   abbrev pub areaOf : ℕ
   areaOf = f .«block_width» * rowsIn
+
+-- ten bytes for each pixel of a block
+abbrev pub scratchOf : Format → ℕ
+scratchOf f = 10 * (f .«block_width» * f .«block_height»)
 
 module _ (v : Seen) (f : Format) where
   -- where the stored bytes begin, and how many there are
@@ -67,7 +72,7 @@ module _ (v : Seen) (f : Format) where
   planChecks maxOutput k = placeChecks k ++ roomChecks maxOutput k
 
   abbrev pub planOf : ℕ → Plan
-  planOf k = record { offset = offsetOf k; count = countOf k; area = areaOf f k; fee = feeOf k }
+  planOf k = record { offset = offsetOf k; count = countOf k; fee = feeOf k }
 
   abbrev planned : Verdict → Plan → Planned
   planned verdict-is.Fine p = planned-is.Fine p
@@ -91,15 +96,18 @@ module _ (v : Seen) (f : Format) where
   unfoldable pub segmentChecks : ℕ → ℕ → List Check
   segmentChecks maxOutput k = planChecks maxOutput k ++ feeChecks k
 
-  -- where the stored bytes are read: a plan of what is there
+  -- what is asked for where the stored bytes are read: they are those of a segment of a format that can be read, and are there
+  pub record Placed (k offset count : ℕ) : Type 0 where
+    pub readable : Readable v f
+    pub of-picture : k < f .segments
+    pub offset-is : offset ≡ offsetOf k
+    pub count-is : count ≡ countOf k
+    pub range-there : There v offset count
+
+  -- a plan of such bytes, with their fee
   pub record PlanFine (k : ℕ) (p : Plan) : Type 0 where
-    pub some-stride : 0 < f .«block_width»
-    pub offset-is : p .offset ≡ offsetOf k
-    pub count-is : p .count ≡ countOf k
-    pub area-is : p .area ≡ areaOf f k
+    pub placed : Placed k (p .offset) (p .count)
     pub fee-is : p .fee ≡ feeOf k
-    pub area-small : p .area ≤ 268435456
-    pub range-there : There v (p .offset) (p .count)
 
   -- n segments from k on, each finished before the next begins
   unfoldable pub eachSegment : ℕ → ℕ → ℕ → List Check

@@ -1,20 +1,18 @@
 -- What a segment shows, and its place in the picture: tile padding goes nowhere.
-use Prim.Native.Nat.{ℕ, _+_, _-_, _*_, _/_, _%_, _<_}
-use mathlib.Core.Path.{_≡_}
+use Prim.Native.Nat.{ℕ, _+_, _-_, _*_, _/_, _%_}
 use mathlib.Core.Bool.{_&&_}
 use mathlib.Core.List.{List}
 use lib.ListN.{length, getD}
 use lib.Dec.{ltb, eqb}
 use Rattle.lists.specs.Lists.{pick, lesser, tabulate}
 use Rattle.checks.specs.Checks.{Holds}
-use Rattle.seen.specs.Seen.{Seen, There}
+use Rattle.seen.specs.Seen.{Seen}
 use Rattle.geometry.specs.Geometry.{byteSegment, byteLocal}
 use Rattle.logluv_format.specs.declared.Format.{Format}
-use Rattle.logluv_format.specs.Readable.{Readable}
 use Rattle.logluv.specs.Packets.{expand}
 use Rattle.luv.specs.Luv.{pixels}
 use Rattle.logluv_segment.specs.declared.paint.Visible.{Visible}
-use Rattle.logluv_segment.specs.Segment.{rowsIn, offsetOf, countOf, stored, storedChecks}
+use Rattle.logluv_segment.specs.Segment.{rowsIn, stored, storedChecks, Placed}
 
 -- a segment's pixels, those of the padding included
 unfoldable pub shown : Seen → Format → ℕ → List ℕ
@@ -46,9 +44,5 @@ module _ (f : Format) where
 
 -- what is asked for where a segment is shown: its stored bytes are there and their packets accepted
 pub record Showable (v : Seen) (f : Format) (k offset count : ℕ) : Type 0 where
-  pub readable : Readable v f
-  pub of-picture : k < f .segments
-  pub offset-is : offset ≡ offsetOf v f k
-  pub count-is : count ≡ countOf v f k
-  pub range-there : There v offset count
+  pub placed : Placed v f k offset count
   pub packets : Holds (storedChecks v f k)

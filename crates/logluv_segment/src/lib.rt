@@ -12,7 +12,7 @@ ghost use Rattle.checks.specs.Checks.{run, verdict};
 ghost use Rattle.seen.specs.Seen.{seen};
 ghost use Rattle.logluv.specs.Packets.{expand};
 ghost use Rattle.logluv_format.specs.Readable.{Readable};
-ghost use Rattle.logluv_segment.specs.Segment.{areaOf, stored, storedChecks, feeChecks, segmentChecks, PlanFine};
+ghost use Rattle.logluv_segment.specs.Segment.{areaOf, stored, storedChecks, feeChecks, segmentChecks, Placed, PlanFine};
 ghost use Rattle.logluv_segment.specs.Shown.{shown, painted, Showable};
 
 // Where a segment's pixels lie in the picture.
@@ -21,15 +21,21 @@ pub mod paint;
 // Where a segment's stored bytes lie, and its fee.
 pub mod plan;
 
-// The packets of a planned segment.
-fn check_packets(file: &[u8], map: &[u8], format: Format, k: usize, plan: Plan) -> Verdict
-    requires { ⌜ PlanFine (seen (now file) (now map)) format k plan ⌝ }
+// The packets of a segment whose stored bytes are there.
+pub fn check_packets(
+    file: &[u8],
+    map: &[u8],
+    format: Format,
+    k: usize,
+    offset: usize,
+    count: usize,
+) -> Verdict
+    requires { ⌜ Placed (seen (now file) (now map)) format k offset count ⌝ }
     ensures { λ r. ⌜ r ≡ verdict (storedChecks (seen (now (file .entry)) (now (map .entry))) format k) ⌝ }
 {
     let stride = format.block_width;
-    let needed = 4 * plan.area;
-    let offset = plan.offset;
-    let end = offset + plan.count;
+    let needed = 4 * plan::area_of(format, k);
+    let end = offset + count;
     logluv::check_part(&file[offset..end], stride, needed)
 }
 
@@ -38,10 +44,12 @@ fn check_stored(file: &[u8], map: &[u8], format: Format, k: usize, plan: Plan, l
     requires { ⌜ PlanFine (seen (now file) (now map)) format k plan ⌝ }
     ensures { λ r. ⌜ r ≡ run (feeChecks (seen (now (file .entry)) (now (map .entry))) format k) left ⌝ }
 {
+    let offset = plan.offset;
+    let count = plan.count;
     let fee = plan.fee;
     match checks::spend(left, fee) {
         Told::Refused(e, u) => Told::Refused(e, u),
-        Told::Passed(u) => match check_packets(file, map, format, k, plan) {
+        Told::Passed(u) => match check_packets(file, map, format, k, offset, count) {
             Verdict::Refused(e) => Told::Refused(e, u),
             Verdict::Fine => Told::Passed(u),
         },

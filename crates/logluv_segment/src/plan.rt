@@ -8,9 +8,11 @@ use entries::Value;
 use logluv_format::Format;
 ghost use mathlib.Core.Path.{_≡_};
 ghost use Prim.Native.Nat.{_<_, _≤_};
+ghost use Rattle.checks.specs.Sizes.{within};
 ghost use Rattle.seen.specs.Seen.{seen};
 ghost use Rattle.logluv_format.specs.Readable.{Valid, Readable};
-ghost use Rattle.logluv_segment.specs.Segment.{rowsIn, areaOf, OffsetFound, placeIs, planIs};
+ghost use Rattle.logluv_segment.specs.Fee.{fee};
+ghost use Rattle.logluv_segment.specs.Segment.{rowsIn, areaOf, scratchOf, OffsetFound, placeIs, planIs};
 
 // Offset and count of a segment's stored bytes, or the number of the check that refused them.
 pub enum Place {
@@ -18,11 +20,10 @@ pub enum Place {
     Range(usize, usize),
 }
 
-// A segment's stored bytes, its area (block width × rows) and its fee.
+// A segment's stored bytes and its fee.
 pub struct Plan {
     pub offset: usize,
     pub count: usize,
-    pub area: usize,
     pub fee: usize,
 }
 
@@ -43,13 +44,31 @@ pub fn rows_in(format: Format, k: usize) -> usize
     geometry::rows_of(tiled, height, block_height, across, k)
 }
 
-// Its area. Sides of a block are at most 16384, so it is small.
-pub(crate) fn area_of(format: Format, k: usize) -> usize
+// Its area: block width × rows. Sides of a block are at most 16384, so it is small.
+pub fn area_of(format: Format, k: usize) -> usize
     requires { ⌜ Valid format × (k < format .segments) ⌝ }
     ensures { λ r. ⌜ (r ≡ areaOf format k) × (r ≤ 268435456) ⌝ }
 {
     let block_width = format.block_width;
     block_width * rows_in(format, k)
+}
+
+// What so many stored bytes and such an area cost.
+pub fn fee_of(count: usize, area: usize) -> Size
+    requires { ⌜ area ≤ 268435456 ⌝ }
+    ensures { λ r. ⌜ r ≡ within (fee count area) ⌝ }
+{
+    checks::sum(count, 20 * area + 1)
+}
+
+// The scratch that the segments of a format need, by way of which they are shown.
+pub fn scratch_of(format: Format) -> usize
+    requires { ⌜ Valid format ⌝ }
+    ensures { λ r. ⌜ r ≡ scratchOf format ⌝ }
+{
+    let block_width = format.block_width;
+    let block_height = format.block_height;
+    10 * (block_width * block_height)
 }
 
 // The entry of the count, where that of the offset is passed, then the range.
@@ -95,12 +114,11 @@ pub fn plan_segment(file: &[u8], map: &[u8], format: Format, max_output: usize, 
             if max_output < 10 * area {
                 return Planned::Refused(LIMIT);
             }
-            match checks::sum(count, 20 * area + 1) {
+            match fee_of(count, area) {
                 Size::Over => Planned::Refused(LIMIT),
                 Size::Fits(fee) => Planned::Fine(Plan {
                     offset: offset,
                     count: count,
-                    area: area,
                     fee: fee,
                 }),
             }

@@ -1,5 +1,5 @@
 -- The bound on what an inspection charges: each partial result is at most the whole, so where one is over the whole is.
-use Prim.Native.Nat.{ℕ, _+_, _*_, _≤_}
+use Prim.Native.Nat.{ℕ, _+_, _*_}
 use mathlib.Core.Path.{_≡_, ap, _∙_}
 use native.Mathlib.Omega.{arith}
 use native.Mathlib.Nat.{mul-comm, le-mul-of-pos-right}
@@ -7,12 +7,9 @@ use borrow.Author.Needs.{needs}
 use Rattle.checks.specs.Sizes.{within}
 use Rattle.checks.specs.declared.Size.{Size}
 use Rattle.checks.specs.declared.Size.the-variants.{Fits, Over}
-use Rattle.checks.proofs.Sizes.{over, fits-is, over-is, product3-none, product3-over, product3-is}
+use Rattle.checks.proofs.Sizes.{over-part, fits-is, product3-none, product3-over, product3-is}
 use Rattle.tiff.specs.declared.Limits.{Limits}
 use Rattle.logluv_tiff.specs.WorkLimit.{workBound}
-
-over-part : {r : Size} (part whole : ℕ) → r ≡ within part → r ≡ Over → part ≤ whole → Over ≡ within whole
-over-part part whole e q h = over whole (omega (arith, over-is part e q))
 
 -- directories times the fee of one, and the profile
 module _ (page tags : ℕ) {a : Size} (ea : a ≡ within (page + 1)) where

@@ -9,10 +9,10 @@ use mathlib.Core.Logic.{⊎-elim}
 use borrow.Author.Needs.{needs}
 use borrow.Author.Tests.{le-leb, lt-leb, not-true, not-false}
 use Rattle.checks.specs.Numbers.{invalid, outputTooSmall}
-use Rattle.checks.specs.Checks.{pay, run, Holds, cost}
+use Rattle.checks.specs.Checks.{pay, run, Holds}
 use Rattle.checks.specs.declared.Told.{Told}
 use Rattle.checks.specs.declared.Told.the-variants.{Refused, Passed}
-use Rattle.checks.proofs.Exact.{Exact, accepted, holds-then, cost-then}
+use Rattle.checks.proofs.Exact.{Exact, accepted, holds-then}
 use Rattle.checks.proofs.Rules.{must-no, must-yes}
 use Rattle.seen.specs.Seen.{Seen}
 use Rattle.seen.proofs.Blocks.{true-false}
@@ -20,9 +20,9 @@ use Rattle.tiff.specs.Header.{limitChecks}
 use Rattle.tiff.specs.declared.Limits.{Limits}
 use Rattle.front.specs.Front.{found, frontChecks, formatSeen}
 use Rattle.logluv_format.specs.declared.Format.{Format}
-use Rattle.front.proofs.Accepted.{readable}
-use Rattle.logluv_segment.specs.Segment.{placeChecks, roomChecks, planChecks, feeChecks, segmentChecks, eachSegment}
-use Rattle.logluv_tiff.specs.Strict.{scratchOf, inspected, segmentsChecks, handleOf, pictureChecks, inspectChecks, gives, isHandle, decodeChecks, SegmentAccepted, PictureAccepted}
+use Rattle.front.proofs.Accepted.{front-readable}
+use Rattle.logluv_segment.specs.Segment.{scratchOf, placeChecks, roomChecks, planChecks, feeChecks, segmentChecks, eachSegment}
+use Rattle.logluv_tiff.specs.Strict.{inspected, segmentsChecks, handleOf, pictureChecks, inspectChecks, gives, isHandle, decodeChecks, SegmentAccepted, PictureAccepted}
 use Rattle.logluv_tiff.specs.declared.Handle.{Handle}
 use Rattle.logluv_tiff.proofs.Handles.{same-is}
 
@@ -52,20 +52,10 @@ module _ (v : Seen) (page : ℕ) (l : Limits) (u w : ℕ) (passed : run (inspect
       holds-then (frontChecks v page l) (segmentsChecks v (formatSeen v page) (l .«max_output»))
       (holds-then (limitChecks (v .size) page l) (pictureChecks v page l) (exact .holds) .1)
 
-  front-covered : cost (frontChecks v page l) ≤ u
-  unfolding inspectChecks pictureChecks
-  front-covered =
-      let a = cost-then (limitChecks (v .size) page l) (pictureChecks v page l) in
-      let b = cost-then (frontChecks v page l) (segmentsChecks v (formatSeen v page) (l .«max_output»)) in
-      omega (arith, a, b, exact .covered)
-
-  front-passed : run (frontChecks v page l) u ≡ Passed (u - cost (frontChecks v page l))
-  front-passed = accepted (frontChecks v page l) u (u - cost (frontChecks v page l)) .1 (record { holds = after-limits .0; covered = front-covered; rest = refl })
-
   page-accepted : PictureAccepted v (formatSeen v page)
   unfolding segmentsChecks
   page-accepted = record {
-    readable = readable v page l u (u - cost (frontChecks v page l)) (formatSeen v page) (ap (λ (t : Told). found t (formatSeen v page)) front-passed);
+    readable = front-readable v page l (after-limits .0);
     segment = λ k h. segment-accepted v (formatSeen v page) (l .«max_output») k (each-holds v (formatSeen v page) (l .«max_output») (formatSeen v page .segments) 0 k (after-limits .1) (omega arith) (omega arith));
   }
 

@@ -1,13 +1,11 @@
 -- Strict inspection: the walk over the segments, the handle after it, and what comes before them.
-use Prim.Native.Nat.{ℕ, suc, _+_, _-_, _*_, _<_, _≤_}
+use Prim.Native.Nat.{ℕ, suc, _+_, _-_, _<_, _≤_}
 use mathlib.Core.Path.{_≡_, refl, sym, _∙_}
 use mathlib.Core.Bool.{Bool, false}
 use mathlib.Core.List.{List, _++_}
 use native.Mathlib.Omega.{arith}
-use native.Mathlib.Nat.{sub-zero, mul-le-mul}
+use native.Mathlib.Nat.{sub-zero}
 use native.Mathlib.Numerals.{add-one}
-use mir.Syntax.{w64}
-use mir.Val.{Fits}
 use borrow.Author.Needs.{needs}
 use Rattle.checks.specs.Checks.{Check, run, verdict, cost}
 use Rattle.checks.specs.declared.Told.{Told}
@@ -18,16 +16,18 @@ use Rattle.checks.proofs.Exact.{Exact, accepted, then, stops}
 use Rattle.checks.proofs.Rules.{ended-free, onward-free}
 use Rattle.seen.specs.Seen.{Seen}
 use Rattle.tiff.specs.Header.{limitChecks}
+use Rattle.tiff.proofs.Orders.{limits-free}
 use Rattle.tiff.specs.declared.Limits.{Limits}
-use Rattle.front.specs.Front.{found, frontChecks, formatSeen, foundOf}
-use Rattle.logluv_format.specs.Readable.{Valid, Readable}
+use Rattle.front.specs.Front.{formatSeen, foundOf}
+use Rattle.logluv_format.specs.Readable.{Readable}
 use Rattle.logluv_format.specs.declared.Format.{Format}
 use Rattle.front.specs.declared.Found.{Found}
 use Rattle.front.specs.declared.Found.the-variants as found-is
+use Rattle.front.proofs.Fronts.{front-ends, front-goes-on}
 use Rattle.front.proofs.Accepted.{readable}
-use Rattle.logluv_segment.specs.Segment.{segmentChecks, eachSegment}
+use Rattle.logluv_segment.specs.Segment.{scratchOf, segmentChecks, eachSegment}
 use Rattle.logluv_segment.proofs.Fees.{segments-cost}
-use Rattle.logluv_tiff.specs.Strict.{scratchOf, handleWith, inspected, segmentsChecks, workOf, handleIn, handleOf, pictureChecks, inspectChecks, inspectedOf, sameHandle, isHandle}
+use Rattle.logluv_tiff.specs.Strict.{handleWith, inspected, segmentsChecks, workOf, handleIn, handleOf, pictureChecks, inspectChecks, inspectedOf, sameHandle, isHandle}
 use Rattle.logluv_tiff.specs.declared.Handle.{Handle}
 use Rattle.logluv_tiff.specs.declared.Inspected.{Inspected}
 use Rattle.logluv_tiff.specs.declared.Inspected.the-variants as inspected-is
@@ -68,18 +68,11 @@ module _ (v : Seen) (f : Format) (maxOutput left k rest : ℕ) (s : Checking v f
 
 pub ruleset checking = (checking-none, segment-refused, checking-more, checking-all, needs)
 
--- scratch is small, as the sides of a block are
-module _ (f : Format) (ok : Valid f) where
-  block-small : f .«block_width» * f .«block_height» ≤ 268435456
-  block-small = mul-le-mul {n₂ = 16384} {m₂ = 16384} (ok .block-width-allowed) (ok .block-height-allowed)
+-- the handle of a format, whose scratch the code computed
+pub handle-made : (f : Format) (page scratch work : ℕ) → scratch ≡ scratchOf f → record { format = f; page = page; scratch = scratch; work = work } ≡ handleWith f page work
+handle-made f page scratch work e = rw e
 
-  pub block-fits : Fits w64 (f .«block_width» * f .«block_height»)
-  block-fits = record { fits = omega (arith, block-small) }
-
-  pub scratch-fits : Fits w64 (scratchOf f)
-  scratch-fits = record { fits = omega (arith, block-small) }
-
-pub ruleset sizes = (block-fits, scratch-fits, needs)
+pub ruleset making = (handle-made, needs)
 
 -- what the segments took is the sum of their fees
 module _ (v : Seen) (f : Format) (maxOutput left : ℕ) {r : Told} (er : r ≡ run (segmentsChecks v f maxOutput) left) where
@@ -105,20 +98,10 @@ module _ (v : Seen) (f : Format) (maxOutput left : ℕ) {r : Told} (er : r ≡ r
 pub ruleset handles = (segments-refused, took, segments-passed, needs)
 
 -- the front part, then the segments
-front-stops : (t : Told) (f : Format) (e u : ℕ) → found t f ≡ found-is.Refused e u → t ≡ Refused e u
-front-stops (Refused n w) f e u q = cc
-front-stops (Passed w) f e u q = let z : _≡_ {A = ℕ} 0 1 = cc in absurd (omega arith)
-
-front-passes : (t : Told) (g f : Format) (u : ℕ) → found t g ≡ found-is.Picture f u → (t ≡ Passed u) × (f ≡ g)
-front-passes (Passed w) g f u q = (cc, cc)
-front-passes (Refused n w) g f u q = let z : _≡_ {A = ℕ} 0 1 = cc in absurd (omega arith)
-
 module _ (v : Seen) (page : ℕ) (l : Limits) (left : ℕ) {r : Found} (er : r ≡ foundOf v page l left) where
   pub front-refused : (e u : ℕ) → r ≡ found-is.Refused e u → inspected-is.Refused e u ≡ inspected (run (pictureChecks v page l) left) (handleOf v page)
   unfolding pictureChecks
-  front-refused e u q =
-      let z = front-stops (run (frontChecks v page l) left) (formatSeen v page) e u (sym er ∙ q) in
-      rw (stops (frontChecks v page l) (segmentsChecks v (formatSeen v page) (l .«max_output»)) left e u z)
+  front-refused e u q = rw (front-ends v page l left er (segmentsChecks v (formatSeen v page) (l .«max_output»)) e u q)
 
   module _ (f : Format) (u : ℕ) (q : r ≡ found-is.Picture f u) where
     pub format-readable : Readable v f
@@ -127,16 +110,12 @@ module _ (v : Seen) (page : ℕ) (l : Limits) (left : ℕ) {r : Found} (er : r �
     pub format-inspected : {i : Inspected} → i ≡ inspected (run (segmentsChecks v f (l .«max_output»)) u) (handleIn v f page) → i ≡ inspected (run (pictureChecks v page l) left) (handleOf v page)
     unfolding pictureChecks
     format-inspected e =
-        let z = front-passes (run (frontChecks v page l) left) (formatSeen v page) f u (sym er ∙ q) in
-        rw (then (frontChecks v page l) (segmentsChecks v (formatSeen v page) (l .«max_output»)) left u (z .0)) (rw (z .1) at e)
+        let z = front-goes-on v page l left er (segmentsChecks v (formatSeen v page) (l .«max_output»)) f u q in
+        rw (z .0) (rw (z .1) at e)
 
 pub ruleset pages = (front-refused, format-readable, format-inspected, needs)
 
 -- the limits before it
-limits-free : (size page : ℕ) (l : Limits) → cost (limitChecks size page l) ≡ 0
-unfolding cost
-limits-free size page l = refl
-
 module _ (v : Seen) (page : ℕ) (l : Limits) (left : ℕ) {r : Verdict} (er : r ≡ verdict (limitChecks (v .size) page l)) where
   pub limits-refused : (e : ℕ) → r ≡ verdict-is.Refused e → inspected-is.Refused e left ≡ inspectedOf v page l left
   unfolding inspectChecks

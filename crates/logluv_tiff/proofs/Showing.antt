@@ -1,11 +1,9 @@
--- Showing an accepted picture: the walk over its segments, and the part of scratch that it needs.
-use Prim.Native.Nat.{ℕ, _+_, _-_, _*_, _<_, _≤_}
+-- Showing an accepted picture: the walk over its segments.
+use Prim.Native.Nat.{ℕ, _+_, _*_, _<_, _≤_}
 use mathlib.Core.Path.{_≡_, refl, sym, ap, _∙_}
-use mathlib.Core.List.{List, _++_}
+use mathlib.Core.List.{List}
 use native.Mathlib.Omega.{arith}
-use native.Mathlib.Nat.{sub-zero, mul-le-mul-left}
-use lib.ListN.{length, take, drop, replicate, length-replicate}
-use lib.Seq.{length-take-le, take-at, drop-at}
+use lib.ListN.{length}
 use borrow.Author.Needs.{needs}
 use Rattle.lists.specs.Lists.{overlay}
 use Rattle.lists.proofs.Overlay.{overlay-length}
@@ -14,20 +12,14 @@ use Rattle.checks.specs.declared.Verdict.the-variants as verdict-is
 use Rattle.seen.specs.Seen.{Seen}
 use Rattle.logluv.specs.Packets.{expand}
 use Rattle.logluv_format.specs.declared.Format.{Format}
-use Rattle.logluv_segment.specs.Segment.{rowsIn, areaOf, placeChecks, placeIs, stored}
+use Rattle.logluv_segment.specs.Segment.{areaOf, scratchOf, placeChecks, placeIs, stored}
 use Rattle.logluv_segment.specs.Shown.{shown, pictureOf, painted, Showable}
 use Rattle.logluv_segment.specs.declared.plan.Place.{Place}
 use Rattle.logluv_segment.specs.declared.plan.Place.the-variants as place-is
-use Rattle.logluv_segment.proofs.Planning.{rows-low, located, not-located, place-there}
+use Rattle.logluv_segment.proofs.Planning.{located, not-located, now-placed, area-in-block}
 use Rattle.logluv_segment.proofs.Showing.{planes-length}
 use Rattle.logluv_segment.proofs.Painting.{Painting, painting-none, painting-more, painting-all}
-use Rattle.logluv_tiff.specs.Strict.{scratchOf, PictureAccepted}
-
--- four bytes for each of a segment's area are within the ten for each pixel of a block
-area-in-block : (f : Format) (k : ℕ) → 4 * areaOf f k ≤ scratchOf f
-area-in-block f k =
-    let h : areaOf f k ≤ f .«block_width» * f .«block_height» = mul-le-mul-left (f .«block_width») (rows-low f k (rowsIn f k) refl) in
-    omega arith
+use Rattle.logluv_tiff.specs.Strict.{PictureAccepted}
 
 -- one segment of an accepted picture
 module _ (v : Seen) (f : Format) (k : ℕ) (ok : PictureAccepted v f) (h : k < f .segments) {r : Place} (er : r ≡ placeIs v f k) where
@@ -42,11 +34,7 @@ module _ (v : Seen) (f : Format) (k : ℕ) (ok : PictureAccepted v f) (h : k < f
   showable offset count q =
       let a = located v f k offset count _ refl (sym er ∙ q) in
       record {
-        readable = ok .readable;
-        of-picture = h;
-        offset-is = a .offset-is;
-        count-is = a .count-is;
-        range-there = rw (a .offset-is, a .count-is) (place-there v f k (ok .segment k h .place));
+        placed = now-placed v f k (ok .readable) h a;
         packets = ok .segment k h .packets;
       }
 
@@ -76,15 +64,3 @@ module _ (v : Seen) (f : Format) (scratch₀ output₀ scratch output : List ℕ
     showing-all h room = painting-all f (shown v f) output₀ output k (s .picture) (ok .readable .valid) h room
 
 pub ruleset showing = (never-refused, showable, showing-none, planes-fit, picture-fits, showing-more, showing-all, needs)
-
--- the part of scratch that was lent twice, and zeroed the second time
-pub zeroed : (needed : ℕ) (scratch used cleared : List ℕ) → needed ≤ length scratch
-    → length used ≡ length (take (needed - 0) (drop 0 scratch))
-    → cleared ≡ replicate (length (take (needed - 0) (drop 0 (used ++ drop (needed - 0) (drop 0 scratch))))) 0
-    → cleared ++ drop (needed - 0) (drop 0 (used ++ drop (needed - 0) (drop 0 scratch))) ≡ overlay (replicate needed 0) scratch
-unfolding overlay
-zeroed needed scratch used cleared room e z =
-    let n : length used ≡ needed = e ∙ rw (sub-zero needed) (length-take-le needed scratch room) in
-    rw (z, sub-zero needed, take-at used (drop needed scratch) needed n, drop-at used (drop needed scratch) needed n, n, length-replicate)
-
-pub ruleset clearing = (zeroed, needs)

@@ -1,5 +1,5 @@
 -- Strict reading: the checks of an inspection from the first limit to the last packet, the handle it gives, and decode of a handle.
-use Prim.Native.Nat.{ℕ, _*_, _<_}
+use Prim.Native.Nat.{ℕ, _<_}
 use mathlib.Core.Bool.{Bool, false, not, _&&_}
 use mathlib.Core.List.{List, [], _∷_, _++_}
 use lib.Dec.{leb, eqb}
@@ -14,14 +14,10 @@ use Rattle.tiff.specs.declared.Limits.{Limits}
 use Rattle.front.specs.Front.{frontChecks, formatSeen}
 use Rattle.logluv_format.specs.Readable.{Readable}
 use Rattle.logluv_format.specs.declared.Format.{Format}
-use Rattle.logluv_segment.specs.Segment.{placeChecks, storedChecks, eachSegment, feesOf}
+use Rattle.logluv_segment.specs.Segment.{scratchOf, placeChecks, storedChecks, eachSegment, feesOf}
 use Rattle.logluv_tiff.specs.declared.Handle.{Handle}
 use Rattle.logluv_tiff.specs.declared.Inspected.{Inspected}
 use Rattle.logluv_tiff.specs.declared.Inspected.the-variants.{Refused, Picture}
-
--- ten bytes for each pixel of a block
-abbrev pub scratchOf : Format → ℕ
-scratchOf f = 10 * (f .«block_width» * f .«block_height»)
 
 -- the handle of a page with this format, where the fees make up this work
 abbrev pub handleWith : Format → ℕ → ℕ → Handle

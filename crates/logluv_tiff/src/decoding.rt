@@ -14,8 +14,9 @@ ghost use lib.ListN.{length, replicate};
 ghost use Rattle.lists.specs.Lists.{overlay};
 ghost use Rattle.checks.specs.Checks.{run, onPass};
 ghost use Rattle.seen.specs.Seen.{seen};
+ghost use Rattle.logluv_segment.specs.Segment.{scratchOf};
 ghost use Rattle.logluv_segment.specs.Shown.{shown, pictureOf};
-ghost use Rattle.logluv_tiff.specs.Strict.{scratchOf, decodeChecks, PictureAccepted};
+ghost use Rattle.logluv_tiff.specs.Strict.{decodeChecks, PictureAccepted};
 
 // All segments, by way of the part of scratch that is needed, which is then zeroed.
 fn show_picture(

@@ -7,6 +7,7 @@ use checks::Told;
 use checks::Verdict;
 use front::Found;
 use logluv_format::Format;
+use logluv_segment::plan;
 use tiff::Limits;
 ghost use mathlib.Core.Path.{_≡_};
 ghost use Prim.Native.Nat.{_-_, _≤_};
@@ -20,9 +21,7 @@ fn handle_after(format: Format, page: usize, left: usize, rest: usize) -> Handle
     requires { ⌜ Valid format × (rest ≤ left) ⌝ }
     ensures { λ r. ⌜ r ≡ handleWith format page (left - rest) ⌝ }
 {
-    let block_width = format.block_width;
-    let block_height = format.block_height;
-    let scratch = 10 * (block_width * block_height);
+    let scratch = plan::scratch_of(format);
     let work = left - rest;
     Handle {
         format: format,

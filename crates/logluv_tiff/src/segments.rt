@@ -10,8 +10,9 @@ ghost use Rattle.lists.specs.Lists.{overlay};
 ghost use Rattle.checks.specs.Checks.{run};
 ghost use Rattle.seen.specs.Seen.{seen};
 ghost use Rattle.logluv_format.specs.Readable.{Readable};
+ghost use Rattle.logluv_segment.specs.Segment.{scratchOf};
 ghost use Rattle.logluv_segment.specs.Shown.{shown, pictureOf};
-ghost use Rattle.logluv_tiff.specs.Strict.{scratchOf, segmentsChecks, PictureAccepted};
+ghost use Rattle.logluv_tiff.specs.Strict.{segmentsChecks, PictureAccepted};
 
 // Each segment in turn; the first that is refused ends it.
 pub(crate) fn check_segments(

@@ -3,6 +3,9 @@ use Rattle.logluv_segment.proofs.Checking.{packets}
 use Rattle.logluv_segment.proofs.check_packets.Statement.{statement}
 use Rattle.logluv_segment.proofs.check_packets.Tie as tie
 
+area-of-requires : tie.Need-area-of-requires
+area-of-requires c κs = search packets
+
 mul-needed : tie.Need-mul-needed
 mul-needed c = search packets
 
@@ -28,6 +31,7 @@ pub check-packets-spec : {M : Type 1} → statement M
 check-packets-spec =
     tie.close
     (tie.spec
+    area-of-requires
     mul-needed
     add-end
     sub-check-part

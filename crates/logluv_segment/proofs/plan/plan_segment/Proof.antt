@@ -21,14 +21,8 @@ mul-if1 c = search planning
 returns : tie.Need-returns
 returns c = search planning
 
-mul-sum : tie.Need-mul-sum
-mul-sum c = search planning
-
-add-sum : tie.Need-add-sum
-add-sum c = search planning
-
-sum-requires : tie.Need-sum-requires
-sum-requires c κs = search planning
+fee-of-requires : tie.Need-fee-of-requires
+fee-of-requires c κs = search planning
 
 enum-told : tie.Need-enum-told
 enum-told c = search planning
@@ -55,9 +49,7 @@ plan-segment-spec =
     area-of-requires
     mul-if1
     returns
-    mul-sum
-    add-sum
-    sum-requires
+    fee-of-requires
     enum-told
     enum-known-fee
     returns-2

@@ -1,5 +1,5 @@
 -- Both calls are lent the needed part of scratch alone, so all after it stays; the second leaves it zero.
-use Rattle.logluv_tiff.proofs.Showing.{clearing}
+use Rattle.logluv_segment.proofs.Clearing.{clearing}
 use Rattle.logluv_tiff.proofs.decoding.show_picture.Statement.{statement}
 use Rattle.logluv_tiff.proofs.decoding.show_picture.Tie as tie
 
