@@ -1,0 +1,4 @@
+pub mod Charging
+pub mod Marking
+pub mod Admitting
+pub mod Answers

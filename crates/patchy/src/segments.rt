@@ -1,0 +1,29 @@
+// The walk over a picture's segments: each is read into its place and marked.
+use logluv_format::Format;
+ghost use mathlib.Core.Path.{_≡_};
+ghost use lib.ListN.{length};
+ghost use Rattle.lists.specs.Lists.{tabulate, overlay};
+ghost use Rattle.seen.specs.Seen.{seen};
+ghost use Rattle.quality.specs.Quality.{codeOf};
+ghost use Rattle.patchy.specs.Patchy.{roomIn, Held, pictureOver};
+
+pub(crate) fn read_segments(
+    file: &[u8],
+    map: &[u8],
+    format: Format,
+    output: &mut [u8],
+    scratch: &mut [u8],
+    quality: &mut [u8],
+)
+    requires { ⌜ Held (seen (now file) (now map)) format (roomIn (now output) (now scratch) (now quality)) ⌝ }
+    ensures picture { λ _. ⌜ now (output .exit) ≡ pictureOver (seen (now (file .entry)) (now (map .entry))) format (now (output .entry)) ⌝ }
+    ensures room { λ _. ⌜ length (now (scratch .exit)) ≡ length (now (scratch .entry)) ⌝ }
+    ensures marks { λ _. ⌜ now (quality .exit) ≡ overlay (tabulate (format .segments) (codeOf (seen (now (file .entry)) (now (map .entry))) format)) (now (quality .entry)) ⌝ }
+{
+    let segments = format.segments;
+    let mut k: usize = 0;
+    while k < segments {
+        quality[k] = quality::read_segment(file, map, format, k, scratch, output);
+        k += 1;
+    }
+}
