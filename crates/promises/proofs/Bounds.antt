@@ -23,12 +23,11 @@ use Rattle.logluv_format.specs.Readable.{Valid}
 use Rattle.logluv_format.specs.declared.Format.{Format}
 use Rattle.front.specs.Container.{walkFee}
 use Rattle.front.specs.Accepted.{ProfileFine}
-use Rattle.front.proofs.Accepted.{valid}
-use Rattle.logluv_segment.specs.Segment.{rowsIn, feeOf, feesOf}
-use Rattle.logluv_tiff.specs.Strict.{scratchOf}
+use Rattle.logluv_segment.specs.Segment.{rowsIn, scratchOf, feeOf, feesOf}
 use Rattle.logluv_tiff.specs.WorkLimit.{workBound}
 use Rattle.logluv_tiff.specs.declared.Handle.{Handle}
 use Rattle.promises.specs.Strict.{SegmentFine, PictureFine, chargeOf, Inspects, Largest}
+use Rattle.promises.proofs.Strict.{page-valid}
 
 -- each directory up to the page has at most so many entries
 walk-bound : (v : Seen) (b : Bool) (maxTags page first : ℕ) → ((i : ℕ) → i ≤ page → entriesAt v b (pageAt v b i first) ≤ maxTags) → walkFee v b page first ≤ (page + 1) * (maxTags + 1)
@@ -39,7 +38,7 @@ walk-bound v b maxTags (suc page) first few = omega (arith, few 0 (omega arith),
 -- no fee is above the file's size, twice the output's limit and one more
 module _ (v : Seen) (f : Format) (maxInput maxOutput : ℕ) (small : v .size ≤ maxInput) where
   pub fee-bound : (k : ℕ) → SegmentFine v f maxOutput k → feeOf v f k ≤ maxInput + 2 * maxOutput + 1
-  fee-bound k s = omega (arith, s .range-there .in-file, s .room-allowed)
+  fee-bound k s = omega (arith, s .good .range-there .in-file, s .room-allowed)
 
   fees-bound : (n k : ℕ) → ((j : ℕ) → k ≤ j → j < k + n → SegmentFine v f maxOutput j) → feesOf v f k n ≤ n * (maxInput + 2 * maxOutput + 1)
   unfolding feesOf
@@ -65,9 +64,9 @@ bound-covers v page l p =
     let each = l .«max_input» + 2 * l .«max_output» + 1 in
     omega (
       arith,
-      walk-bound v (big v) (l .«max_tags») page (firstOf v) (λ k a. p .directories .is-fine k a .few-entries),
-      fees-bound v f (l .«max_input») (l .«max_output») (p .input-allowed) (f .segments) 0 (λ k a b. p .each-segment k (omega arith)),
-      mul-le-mul-right {m = f .segments} {n = l .«max_segments»} each (few-segments v (big v) (entriesAt v (big v) at) (slotsAt v (big v) at) l (p .profile)),
+      walk-bound v (big v) (l .«max_tags») page (firstOf v) (λ k a. p .page-fine .directories .is-fine k a .few-entries),
+      fees-bound v f (l .«max_input») (l .«max_output») (p .page-fine .input-allowed) (f .segments) 0 (λ k a b. p .each-segment k (omega arith)),
+      mul-le-mul-right {m = f .segments} {n = l .«max_segments»} each (few-segments v (big v) (entriesAt v (big v) at) (slotsAt v (big v) at) l (p .page-fine .profile)),
     )
 
 -- so the work limit, where it answers, covers the charge
@@ -91,6 +90,4 @@ scratch-largest f ok = record {
 
 -- and so is that of each handle
 pub scratch-given : (v : Seen) (page : ℕ) (l : Limits) (u w : ℕ) (h : Handle) → Inspects v page l u w h → Largest (h .format) (h .scratch)
-scratch-given v page l u w h i =
-    let at = pageAt v (big v) page (firstOf v) in
-    rw (i .handle-is) (scratch-largest (formatSeen v page) (valid v (big v) (entriesAt v (big v) at) (slotsAt v (big v) at) l (i .fine .profile)))
+scratch-given v page l u w h i = rw (i .handle-is) (scratch-largest (formatSeen v page) (page-valid v page l (i .fine .page-fine)))

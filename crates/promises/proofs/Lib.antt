@@ -5,3 +5,8 @@ pub mod Bounds
 pub mod Handles
 pub mod Decoded
 pub mod Upstream
+pub mod Patchy
+pub mod Unseen
+pub mod Codes
+pub mod Marks
+pub mod Whole

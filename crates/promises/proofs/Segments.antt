@@ -14,10 +14,10 @@ use Rattle.seen.specs.Seen.{Seen, whole, there, There}
 use Rattle.seen.proofs.Words.{there-holds, holds-there}
 use Rattle.entries.specs.Values.{sizeOf, placeOf}
 use Rattle.logluv_format.specs.declared.Format.{Format}
-use Rattle.front.proofs.Arrival.{never-there}
+use Rattle.front.proofs.Arrival.{missing-unusual, never-there}
 use Rattle.logluv.specs.Packets.{lenOf, payloadOf, packetChecks}
 use Rattle.logluv_segment.specs.Segment.{areaOf, offsetOf, countOf, placeChecks, feeOf, roomChecks, planChecks, stored, storedChecks, segmentChecks, eachSegment}
-use Rattle.promises.specs.Strict.{SegmentFine}
+use Rattle.promises.specs.Strict.{Good, SegmentFine}
 
 there-fine : (v : Seen) (at n : ℕ) → Holds (there v at n) ↔ There v at n
 there-fine v at n = (holds-there v at n, there-holds v at n)
@@ -49,10 +49,17 @@ module _ (v : Seen) (f : Format) where
       both (there v (offsetPlace k) offsetSize) (there v (countPlace k) countSize ++ there v (offsetOf v f k) (countOf v f k)) (there-fine v (offsetPlace k) offsetSize)
       (both (there v (countPlace k) countSize) (there v (offsetOf v f k) (countOf v f k)) (there-fine v (countPlace k) countSize) (there-fine v (offsetOf v f k) (countOf v f k)))
 
+  -- a segment is good exactly if the checks of its place and of its packets hold
+  pub good-fine : (k : ℕ) → (Holds (placeChecks v f k) × Holds (storedChecks v f k)) ↔ Good v f k
+  good-fine k = (
+    λ p. let t = place-fine k .0 (p .0) in record { offset-there = t .0; count-there = t .1 .0; range-there = t .1 .1; packets = p .1 },
+    λ g. (place-fine k .1 (g .offset-there, (g .count-there, g .range-there)), g .packets),
+  )
+
   never-place : ((start n : ℕ) → whole (v .came) start n ≡ true) → (k : ℕ) → Never notArrived (placeChecks v f k)
   unfolding placeChecks
   never-place all-came k =
-      let always : (at n : ℕ) → Never notArrived (there v at n) = never-there v all-came in
+      let always : (at n : ℕ) → Never notArrived (there v at n) = never-there notArrived missing-unusual v (λ z. all-came) in
       never-both notArrived (there v (offsetPlace k) offsetSize) (there v (countPlace k) countSize ++ there v (offsetOf v f k) (countOf v f k)) (always (offsetPlace k) offsetSize)
       (never-both notArrived (there v (countPlace k) countSize) (there v (offsetOf v f k) (countOf v f k)) (always (countPlace k) countSize) (always (offsetOf v f k) (countOf v f k)))
 
@@ -67,16 +74,9 @@ module _ (v : Seen) (f : Format) (maxOutput : ℕ) where
 
     pub segment-fine : Holds (segmentChecks v f maxOutput k) ↔ SegmentFine v f maxOutput k
     unfolding Holds segmentChecks planChecks
-    segment-fine = Iff·trans (both (planChecks v f maxOutput k) (pay (feeOf v f k) ∷ storedChecks v f k) (both (placeChecks v f k) (roomChecks v f maxOutput k) (place-fine v f k) room-fine) (λ h. h, λ h. h)) (
-      λ p. record {
-        offset-there = p .0 .0 .0;
-        count-there = p .0 .0 .1 .0;
-        range-there = p .0 .0 .1 .1;
-        room-allowed = p .0 .1 .0;
-        fee-fits = p .0 .1 .1;
-        packets = p .1;
-      },
-      λ s. (((s .offset-there, (s .count-there, s .range-there)), (s .room-allowed, s .fee-fits)), s .packets),
+    segment-fine = Iff·trans (both (planChecks v f maxOutput k) (pay (feeOf v f k) ∷ storedChecks v f k) (both (placeChecks v f k) (roomChecks v f maxOutput k) (λ h. h, λ h. h) room-fine) (λ h. h, λ h. h)) (
+      λ p. record { good = good-fine v f k .0 (p .0 .0, p .1); room-allowed = p .0 .1 .0; fee-fits = p .0 .1 .1 },
+      λ s. let g = good-fine v f k .1 (s .good) in ((g .0, (s .room-allowed, s .fee-fits)), g .1),
     )
 
   -- n segments from k on

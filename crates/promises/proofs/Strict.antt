@@ -14,15 +14,18 @@ use Rattle.checks.proofs.Exact.{Exact, accepted, both, cost-then, never, never-
 use Rattle.checks.proofs.Refusals.{RefusedAt, refused}
 use Rattle.seen.specs.Seen.{Seen, seen}
 use Rattle.seen.proofs.Alike.{whole-came}
-use Rattle.tiff.specs.Header.{limitChecks}
+use Rattle.tiff.specs.Header.{limitChecks, big, firstOf}
+use Rattle.tiff.specs.Directory.{entriesAt, slotsAt}
+use Rattle.tiff.specs.Walk.{pageAt}
 use Rattle.tiff.specs.declared.Limits.{Limits}
 use Rattle.front.specs.Front.{frontChecks, formatSeen}
-use Rattle.front.proofs.Accepted.{front-holds, front-cost}
-use Rattle.front.proofs.Arrival.{never-front}
+use Rattle.front.proofs.Accepted.{valid, front-holds, front-cost}
+use Rattle.front.proofs.Arrival.{missing-unusual, never-front}
+use Rattle.logluv_format.specs.Readable.{Valid}
 use Rattle.logluv_tiff.specs.Strict.{segmentsChecks, handleOf, pictureChecks, inspectChecks, inspected, inspectedOf}
 use Rattle.logluv_tiff.specs.declared.Handle.{Handle}
 use Rattle.logluv_tiff.specs.declared.Inspected.the-variants.{Refused, Picture}
-use Rattle.promises.specs.Strict.{PictureFine, chargeOf, Inspects}
+use Rattle.promises.specs.Strict.{PageFine, PictureFine, chargeOf, Inspects}
 use Rattle.logluv_segment.proofs.Fees.{segments-cost}
 use Rattle.promises.proofs.Segments.{segments-fine, never-segments}
 
@@ -34,20 +37,29 @@ module _ (v : Seen) (page : ℕ) (l : Limits) where
     λ p. (le-leb (v .size) (l .«max_input») (p .0), (lt-ltb page (l .«max_directories») (p .1), tt)),
   )
 
+  -- the limits and the front part
+  pub page-is-fine : (Holds (limitChecks (v .size) page l) × Holds (frontChecks v page l)) ↔ PageFine v page l
+  page-is-fine = (
+    λ p.
+        let a = limits-fine .0 (p .0) in
+        let b = front-holds v page l .0 (p .1) in
+        record { input-allowed = a .0; page-allowed = a .1; header = b .0; directories = b .1 .0; profile = b .1 .1 },
+    λ f. (limits-fine .1 (f .input-allowed, f .page-allowed), front-holds v page l .1 (f .header, (f .directories, f .profile))),
+  )
+
+  -- the sizes of its format are then sound
+  pub page-valid : PageFine v page l → Valid (formatSeen v page)
+  page-valid p =
+      let at = pageAt v (big v) page (firstOf v) in
+      valid v (big v) (entriesAt v (big v) at) (slotsAt v (big v) at) l (p .profile)
+
   picture-fine : Holds (inspectChecks v page l) ↔ PictureFine v page l
   unfolding inspectChecks pictureChecks segmentsChecks
   picture-fine =
       let f = formatSeen v page in
-      Iff·trans (both (limitChecks (v .size) page l) (pictureChecks v page l) limits-fine (both (frontChecks v page l) (segmentsChecks v f (l .«max_output»)) (front-holds v page l) (segments-fine v f (l .«max_output») (f .segments)))) (
-        λ p. record {
-          input-allowed = p .0 .0;
-          page-allowed = p .0 .1;
-          header = p .1 .0 .0;
-          directories = p .1 .0 .1 .0;
-          profile = p .1 .0 .1 .1;
-          each-segment = p .1 .1;
-        },
-        λ f. ((f .input-allowed, f .page-allowed), ((f .header, (f .directories, f .profile)), f .each-segment)),
+      Iff·trans (both (limitChecks (v .size) page l) (pictureChecks v page l) (λ h. h, λ h. h) (both (frontChecks v page l) (segmentsChecks v f (l .«max_output»)) (λ h. h, λ h. h) (segments-fine v f (l .«max_output») (f .segments)))) (
+        λ p. record { page-fine = page-is-fine .0 (p .0, p .1 .0); each-segment = p .1 .1 },
+        λ f. let g = page-is-fine .1 (f .page-fine) in (g .0, (g .1, f .each-segment)),
       )
 
   picture-cost : cost (inspectChecks v page l) ≡ chargeOf v page
@@ -105,5 +117,5 @@ never-missing-strict file page l u w q =
     let f = formatSeen v page in
     never notArrived (inspectChecks v page l) u w
     (never-both notArrived (limitChecks (v .size) page l) (pictureChecks v page l) (λ z. absurd (omega arith), (λ z. absurd (omega arith), tt))
-    (never-both notArrived (frontChecks v page l) (segmentsChecks v f (l .«max_output»)) (never-front v (whole-came file) page l) (never-segments v f (l .«max_output») (whole-came file) (f .segments) 0)))
+    (never-both notArrived (frontChecks v page l) (segmentsChecks v f (l .«max_output»)) (never-front notArrived missing-unusual v (λ z. whole-came file) page l) (never-segments v f (l .«max_output») (whole-came file) (f .segments) 0)))
     (told-refused v page l u w notArrived q)

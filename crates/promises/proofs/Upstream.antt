@@ -18,7 +18,7 @@ use Rattle.seen.specs.Seen.{Seen}
 use Rattle.geometry.specs.Geometry.{rowsOf}
 use Rattle.tiff.specs.declared.Limits.{Limits}
 use Rattle.tiff.specs.Header.{big, firstOf}
-use Rattle.tiff.specs.Directory.{entriesAt, slotsAt}
+use Rattle.tiff.specs.Directory.{slotsAt}
 use Rattle.tiff.specs.Walk.{pageAt}
 use Rattle.front.specs.Front.{formatSeen}
 use Rattle.logluv_format.specs.Profile.{present, numbersOf, shapeOf, formatIn, formatOf}
@@ -26,17 +26,16 @@ use Rattle.logluv_format.specs.Readable.{Valid}
 use Rattle.logluv_format.specs.declared.Format.{Format}
 use Rattle.front.specs.Container.{HeaderFine, WalkFine}
 use Rattle.front.specs.Accepted.{ProfileFine}
-use Rattle.front.proofs.Accepted.{valid}
-use Rattle.logluv_segment.specs.Segment.{rowsIn, areaOf, feeOf, placeChecks, roomChecks, planChecks, feeChecks, segmentChecks, feesOf}
+use Rattle.logluv_segment.specs.Segment.{rowsIn, areaOf, scratchOf, feeOf, placeChecks, roomChecks, planChecks, feeChecks, segmentChecks, feesOf}
 use Rattle.logluv_segment.proofs.Checking.{plan-free}
 use Rattle.logluv_segment.proofs.Fees.{segment-cost}
-use Rattle.logluv_tiff.specs.Strict.{scratchOf, workOf, handleOf, inspectedOf, isHandle}
+use Rattle.logluv_tiff.specs.Strict.{workOf, handleOf, inspectedOf, isHandle}
 use Rattle.logluv_tiff.specs.WorkLimit.{workBound}
 use Rattle.logluv_tiff.specs.declared.Handle.{Handle}
 use Rattle.logluv_tiff.specs.declared.Inspected.the-variants as inspected-is
 use Rattle.promises.specs.Strict.{SegmentFine, PictureFine, chargeOf, Inspects, Largest}
 use Rattle.promises.proofs.Segments.{place-fine, segment-fine}
-use Rattle.promises.proofs.Strict.{inspection-exact, inspection-refused}
+use Rattle.promises.proofs.Strict.{page-valid, inspection-exact, inspection-refused}
 use Rattle.promises.proofs.Bounds.{fee-bound, bound-covers, scratch-given}
 use Rattle.promises.proofs.Handles.{handle-exact}
 
@@ -125,7 +124,7 @@ module _ (v : Seen) (page : ℕ) (l : Limits) where
           omega (arith, g .first-all, i .fine .each-segment 0 (g .some-segment) .room-allowed)
 
       pub output-allowed : h .format .output ≤ l .«max_output»
-      output-allowed = rw of-page (output-small v (big v) _ _ l (i .fine .profile))
+      output-allowed = rw of-page (output-small v (big v) _ _ l (i .fine .page-fine .profile))
 
 -- what upstream demands of a handle before decode, of one that passes the check
 pub record WellFormed (v : Seen) (l : Limits) (h : Handle) : Type 0 where
@@ -144,14 +143,13 @@ pub well-formed : (v : Seen) (l : Limits) (h : Handle) → isHandle v l h ≡ tr
 well-formed v l h passes =
     let given = handle-exact v l h .0 passes in
     let i = inspection-exact v (h .page) l 18446744073709551615 (given .0) h .0 (given .1) in
-    let at = pageAt v (big v) (h .page) (firstOf v) in
     let f = of-page v (h .page) l 18446744073709551615 (given .0) h i in
     record {
-      header = i .fine .header;
-      directories = i .fine .directories;
-      profile = i .fine .profile;
+      header = i .fine .page-fine .header;
+      directories = i .fine .page-fine .directories;
+      profile = i .fine .page-fine .profile;
       format-is = f;
-      valid-format = rw f (valid v (big v) (entriesAt v (big v) at) (slotsAt v (big v) at) l (i .fine .profile));
+      valid-format = rw f (page-valid v (h .page) l (i .fine .page-fine));
       each-segment = rw f (i .fine .each-segment);
       scratch-is = ap (λ (x : Handle). x .scratch) (i .handle-is) ∙ ap scratchOf (sym f);
       scratch-small = scratch-allowed v (h .page) l 18446744073709551615 (given .0) h i;

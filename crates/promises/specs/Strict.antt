@@ -23,22 +23,30 @@ use Rattle.logluv_tiff.specs.Strict.{handleOf, inspectedOf}
 use Rattle.logluv_tiff.specs.declared.Handle.{Handle}
 use Rattle.logluv_tiff.specs.declared.Inspected.the-variants.{Picture}
 
--- segment k: the bytes of its two entries and its range are there, 10A and the fee are allowed, its packets are accepted
-pub record SegmentFine (v : Seen) (f : Format) (maxOutput k : ℕ) : Type 0 where
+-- segment k is good: the bytes of its two entries and its stored bytes lie in the file and came, and its packets are accepted
+pub record Good (v : Seen) (f : Format) (k : ℕ) : Type 0 where
   pub offset-there : There v (placeOf v (f .big) (f .offsets) k) (sizeOf v (f .big) (f .offsets))
   pub count-there : There v (placeOf v (f .big) (f .counts) k) (sizeOf v (f .big) (f .counts))
   pub range-there : There v (offsetOf v f k) (countOf v f k)
-  pub room-allowed : 10 * areaOf f k ≤ maxOutput
-  pub fee-fits : feeOf v f k ≤ 18446744073709551615
   pub packets : Holds (storedChecks v f k)
 
--- the limits on the file and the page, the front part, and each segment
-pub record PictureFine (v : Seen) (page : ℕ) (l : Limits) : Type 0 where
+-- good, with 10A and the fee allowed
+pub record SegmentFine (v : Seen) (f : Format) (maxOutput k : ℕ) : Type 0 where
+  pub good : Good v f k
+  pub room-allowed : 10 * areaOf f k ≤ maxOutput
+  pub fee-fits : feeOf v f k ≤ 18446744073709551615
+
+-- the limits on the file and the page, and the front part
+pub record PageFine (v : Seen) (page : ℕ) (l : Limits) : Type 0 where
   pub input-allowed : v .size ≤ l .«max_input»
   pub page-allowed : page < l .«max_directories»
   pub header : HeaderFine v
   pub directories : WalkFine v (big v) (l .«max_tags») page (firstOf v)
   pub profile : ProfileFine v (big v) (slotsAt v (big v) (pageAt v (big v) page (firstOf v))) l
+
+-- these, and each segment
+pub record PictureFine (v : Seen) (page : ℕ) (l : Limits) : Type 0 where
+  pub page-fine : PageFine v page l
   pub each-segment : (k : ℕ) → k < formatSeen v page .segments → SegmentFine v (formatSeen v page) (l .«max_output») k
 
 -- the directories, 128 and the sum of fees
