@@ -11,6 +11,7 @@ use Rattle.lists.specs.Lists.{pick, lesser}
 use Rattle.checks.specs.Checks.{verdict}
 use Rattle.checks.specs.declared.Verdict.{Verdict}
 use Rattle.checks.specs.declared.Verdict.the-variants as verdict-is
+use Rattle.checks.proofs.Exact.{refused-fine}
 use Rattle.seen.specs.Seen.{Seen, seen, inside, there, There, four}
 use Rattle.seen.proofs.Words.{there-part, there-of}
 use Rattle.seen.proofs.Alike.{whole-came}
@@ -32,9 +33,6 @@ module _ (v : Seen) (at : ℕ) where
   pub eight-read : (a b : ℕ) → a ≡ four false v at → b ≡ four false v (at + 4) → a + 4294967296 * b ≡ eight v at
   unfolding eight
   eight-read a b ea eb = rw (ea, eb)
-
-refused-fine : (e : ℕ) → verdict-is.Refused e ≡ verdict-is.Fine → ⊥
-refused-fine e q = let z : _≡_ {A = ℕ} 0 1 = cc in omega arith
 
 module _ (file : List ℕ) (at : ℕ) {r : Verdict} (er : r ≡ verdict (there (seen file []) at 8)) where
   told : (b : Bool) → inside (length file) at 8 ≡ b → r ≡ pick b verdict-is.Fine (verdict-is.Refused 1)

@@ -1,4 +1,4 @@
-// Numbers in the records of vector files: eight bytes, the least significant first.
+// What the vector programs share: numbers in the records of their files, eight bytes each, the least significant first; and a checksum.
 use checks::Verdict;
 ghost use mathlib.Core.Path.{_≡_};
 ghost use mathlib.Core.List.{[]};
@@ -6,6 +6,9 @@ ghost use Prim.Native.Nat.{_<_, _≤_};
 ghost use Rattle.lists.specs.Lists.{lesser};
 ghost use Rattle.seen.specs.Seen.{seen, There};
 ghost use Rattle.records.specs.Records.{eight, numberAt};
+
+// A checksum of a whole buffer.
+pub mod crc;
 
 pub fn wide(x: u8) -> usize
     ensures { λ r. ⌜ (r ≡ x) × (r < 256) ⌝ }

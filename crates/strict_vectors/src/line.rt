@@ -54,7 +54,7 @@ pub fn put_told(told: Told) {
 
 pub fn put_buffer(before: &[u8], buffer: &[u8]) {
     say(before);
-    io::print_hex(STDOUT_FILENO, crate::crc::crc32(buffer) as u64, 8);
+    io::print_hex(STDOUT_FILENO, records::crc::crc32(buffer) as u64, 8);
 }
 
 pub fn put_size(size: Size) {

@@ -14,9 +14,6 @@ ghost use Rattle.io.specs.Counts.{Counts};
 // A handle altered in one field.
 mod change;
 
-// A checksum of a whole buffer.
-mod crc;
-
 // What is written.
 mod line;
 
