@@ -54,6 +54,25 @@ def unnoticed(all_files, script):
 def folder(crate):
     return os.path.join(os.path.dirname(os.path.abspath(__file__)), '..', 'crates', crate)
 
+def hold(root, written):
+    """Compares files with what is there; the exit status."""
+    bad = 0
+    for name, body in written.items():
+        path = os.path.join(root, name)
+        if not os.path.exists(path) or open(path, 'rb').read() != body:
+            print('differs:', name)
+            bad = 1
+    return bad
+
+def write(root, written):
+    """Writes files; the exit status."""
+    for name, body in written.items():
+        path = os.path.join(root, name)
+        os.makedirs(os.path.dirname(path), exist_ok=True)
+        with open(path, 'wb') as f:
+            f.write(body)
+    return 0
+
 def main(words_given, crate, script):
     """What the script named by its globals is asked to do for a crate; the exit status."""
     root = folder(crate)
@@ -66,18 +85,8 @@ def main(words_given, crate, script):
         print('%d mistakes tried, %d unnoticed' % (len(script['WRONG']), len(missed)))
         return 1 if missed else 0
     if words_given == ['--check']:
-        bad = 0
-        for name, body in written.items():
-            path = os.path.join(root, name)
-            if not os.path.exists(path) or open(path, 'rb').read() != body:
-                print('differs:', name)
-                bad = 1
-        return bad
-    for name, body in written.items():
-        path = os.path.join(root, name)
-        os.makedirs(os.path.dirname(path), exist_ok=True)
-        with open(path, 'wb') as f:
-            f.write(body)
+        return hold(root, written)
+    write(root, written)
     for name, kind, records in all_files:
         if kind != GIVEN:
             print('%-22s %5d records %6d bytes' % (name, len(records), len(written['data/' + name])))
