@@ -16,6 +16,9 @@ vectors:
 	python3 tests/front_vectors.py --wrong
 	python3 tests/strict_vectors.py
 	python3 tests/strict_vectors.py --wrong
+	python3 tests/patchy_vectors.py
+	python3 tests/patchy_vectors.py --wrong
+	python3 tests/incident.py
 
 format:
 	rt fmt
