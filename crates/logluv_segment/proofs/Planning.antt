@@ -61,14 +61,14 @@ module _ (count area : ℕ) where
 pub ruleset fees = (fee-told, needs)
 
 -- scratch is small, as the sides of a block are
-module _ (f : Format) (ok : Valid f) where
-  block-small : f .«block_width» * f .«block_height» ≤ 268435456
-  block-small = mul-le-mul {n₂ = 16384} {m₂ = 16384} (ok .block-width-allowed) (ok .block-height-allowed)
+module _ (wide high : ℕ) (a : wide ≤ 16384) (b : high ≤ 16384) where
+  block-small : wide * high ≤ 268435456
+  block-small = mul-le-mul {n₂ = 16384} {m₂ = 16384} a b
 
-  pub block-fits : Fits w64 (f .«block_width» * f .«block_height»)
+  pub block-fits : Fits w64 (wide * high)
   block-fits = record { fits = omega (arith, block-small) }
 
-  pub scratch-fits : Fits w64 (scratchOf f)
+  pub scratch-fits : Fits w64 (10 * (wide * high))
   scratch-fits = record { fits = omega (arith, block-small) }
 
 pub ruleset sizes = (block-fits, scratch-fits, needs)
