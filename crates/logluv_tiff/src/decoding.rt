@@ -16,7 +16,7 @@ ghost use Rattle.checks.specs.Checks.{run, onPass};
 ghost use Rattle.seen.specs.Seen.{seen};
 ghost use Rattle.logluv_segment.specs.Segment.{scratchOf};
 ghost use Rattle.logluv_segment.specs.Shown.{shown, pictureOf};
-ghost use Rattle.logluv_tiff.specs.Strict.{decodeChecks, PictureAccepted};
+ghost use Rattle.logluv_tiff.specs.Strict.{showChecks, decodeChecks, pictureOver, clearedOver, PictureAccepted, Showable};
 
 // All segments, by way of the part of scratch that is needed, which is then zeroed.
 fn show_picture(
@@ -35,22 +35,20 @@ fn show_picture(
     paint::clear(&mut scratch[0..needed]);
 }
 
-pub(crate) fn decode_seen(
+// The buffers, the charge, then the picture of a handle that an inspection gave.
+pub(crate) fn show_handle(
     file: &[u8],
     map: &[u8],
-    limits: Limits,
     handle: Handle,
     left: usize,
     output: &mut [u8],
     scratch: &mut [u8],
 ) -> Told
-    ensures answer { λ r. ⌜ r ≡ run (decodeChecks (seen (now (file .entry)) (now (map .entry))) limits handle (length (now (output .entry))) (length (now (scratch .entry)))) left ⌝ }
-    ensures picture { λ r. ⌜ now (output .exit) ≡ onPass r (overlay (pictureOf (handle .format) (shown (seen (now (file .entry)) (now (map .entry))) (handle .format))) (now (output .entry))) (now (output .entry)) ⌝ }
-    ensures cleared { λ r. ⌜ now (scratch .exit) ≡ onPass r (overlay (replicate (handle .scratch) 0) (now (scratch .entry))) (now (scratch .entry)) ⌝ }
+    requires { ⌜ Showable (seen (now file) (now map)) handle ⌝ }
+    ensures answer { λ r. ⌜ r ≡ run (showChecks handle (length (now (output .entry))) (length (now (scratch .entry)))) left ⌝ }
+    ensures picture { λ r. ⌜ now (output .exit) ≡ onPass r (pictureOver (seen (now (file .entry)) (now (map .entry))) handle (now (output .entry))) (now (output .entry)) ⌝ }
+    ensures cleared { λ r. ⌜ now (scratch .exit) ≡ onPass r (clearedOver handle (now (scratch .entry))) (now (scratch .entry)) ⌝ }
 {
-    if !inspection::is_handle(file, map, limits, handle) {
-        return Told::Refused(INVALID, left);
-    }
     let format = handle.format;
     let size = format.output;
     let needed = handle.scratch;
@@ -68,4 +66,23 @@ pub(crate) fn decode_seen(
             Told::Passed(u)
         }
     }
+}
+
+pub(crate) fn decode_seen(
+    file: &[u8],
+    map: &[u8],
+    limits: Limits,
+    handle: Handle,
+    left: usize,
+    output: &mut [u8],
+    scratch: &mut [u8],
+) -> Told
+    ensures answer { λ r. ⌜ r ≡ run (decodeChecks (seen (now (file .entry)) (now (map .entry))) limits handle (length (now (output .entry))) (length (now (scratch .entry)))) left ⌝ }
+    ensures picture { λ r. ⌜ now (output .exit) ≡ onPass r (pictureOver (seen (now (file .entry)) (now (map .entry))) handle (now (output .entry))) (now (output .entry)) ⌝ }
+    ensures cleared { λ r. ⌜ now (scratch .exit) ≡ onPass r (clearedOver handle (now (scratch .entry))) (now (scratch .entry)) ⌝ }
+{
+    if !inspection::is_handle(file, map, limits, handle) {
+        return Told::Refused(INVALID, left);
+    }
+    show_handle(file, map, handle, left, output, scratch)
 }
