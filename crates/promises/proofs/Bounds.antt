@@ -30,7 +30,7 @@ use Rattle.promises.specs.Strict.{SegmentFine, PictureFine, chargeOf, In
 use Rattle.promises.proofs.Strict.{page-valid}
 
 -- each directory up to the page has at most so many entries
-walk-bound : (v : Seen) (b : Bool) (maxTags page first : ℕ) → ((i : ℕ) → i ≤ page → entriesAt v b (pageAt v b i first) ≤ maxTags) → walkFee v b page first ≤ (page + 1) * (maxTags + 1)
+pub walk-bound : (v : Seen) (b : Bool) (maxTags page first : ℕ) → ((i : ℕ) → i ≤ page → entriesAt v b (pageAt v b i first) ≤ maxTags) → walkFee v b page first ≤ (page + 1) * (maxTags + 1)
 unfolding walkFee pageAt
 walk-bound v b maxTags zero first few = omega (arith, few 0 (omega arith))
 walk-bound v b maxTags (suc page) first few = omega (arith, few 0 (omega arith), walk-bound v b maxTags page (nextAt v b first) (λ i l. few (suc i) (omega arith)))
@@ -47,7 +47,7 @@ module _ (v : Seen) (f : Format) (maxInput maxOutput : ℕ) (small : v .size ≤
       omega (arith, fee-bound k (fine k (omega arith) (omega arith)), fees-bound n (suc k) (λ j a b. fine j (omega arith) (omega arith)))
 
 -- the profile allows no more segments
-few-segments : (v : Seen) (b : Bool) (entries : ℕ) (slots : List ℕ) (l : Limits) → ProfileFine v b slots l → formatOf v b entries slots .segments ≤ l .«max_segments»
+pub few-segments : (v : Seen) (b : Bool) (entries : ℕ) (slots : List ℕ) (l : Limits) → ProfileFine v b slots l → formatOf v b entries slots .segments ≤ l .«max_segments»
 unfolding formatIn shapeOf
 few-segments v b entries slots l p = by (eqb (getD slots 15 0) 0) refl
   where

@@ -12,13 +12,21 @@ use Rattle.checks.proofs.Exact.{Exact, accepted}
 use Rattle.seen.specs.Seen.{Seen}
 use Rattle.seen.proofs.Blocks.{true-false}
 use Rattle.tiff.specs.declared.Limits.{Limits}
-use Rattle.logluv_tiff.specs.Strict.{handleOf, inspectedOf, gives, isHandle, decodeChecks}
+use Rattle.logluv_tiff.specs.Strict.{handleOf, inspectedOf, gives, isHandle, showChecks, decodeChecks}
 use Rattle.logluv_tiff.specs.declared.Handle.{Handle}
 use Rattle.logluv_tiff.specs.declared.Inspected.{Inspected}
 use Rattle.logluv_tiff.specs.declared.Inspected.the-variants.{Refused, Picture}
 use Rattle.logluv_tiff.proofs.Handles.{same-is, same-self}
 use Rattle.promises.specs.Strict.{chargeOf, Given, Decodes}
 use Rattle.promises.proofs.Strict.{inspection-exact}
+
+-- buffers that hold the picture
+pub show-fine : (h : Handle) (output scratch : ℕ) → Holds (showChecks h output scratch) ↔ ((h .format .output ≤ output) × (h .scratch ≤ scratch))
+unfolding Holds
+show-fine h output scratch = (
+  λ p. (leb-true (h .format .output) output (p .0), leb-true (h .scratch) scratch (p .1 .0)),
+  λ p. (le-leb (h .format .output) output (p .0), (le-leb (h .scratch) scratch (p .1), tt)),
+)
 
 module _ (v : Seen) (l : Limits) where
   -- a handle passes exactly if it is what a successful inspection of its page gives
@@ -34,15 +42,11 @@ module _ (v : Seen) (l : Limits) where
     decodes : Exact (decodeChecks v l h output scratch) u w ↔ Decodes v l h output scratch u w
     unfolding Holds cost
     decodes = (
-      λ x. record {
-        given = handle-exact h .0 (x .holds .0);
-        output-holds = leb-true (h .format .output) output (x .holds .1 .0);
-        scratch-holds = leb-true (h .scratch) scratch (x .holds .1 .1 .0);
-        covered = omega (arith, x .covered);
-        rest = omega (arith, x .rest);
-      },
+      λ x.
+          let p = show-fine h output scratch .0 (x .holds .1) in
+          record { given = handle-exact h .0 (x .holds .0); output-holds = p .0; scratch-holds = p .1; covered = omega (arith, x .covered); rest = omega (arith, x .rest) },
       λ d. record {
-        holds = (handle-exact h .1 (d .given), (le-leb (h .format .output) output (d .output-holds), (le-leb (h .scratch) scratch (d .scratch-holds), tt)));
+        holds = (handle-exact h .1 (d .given), show-fine h output scratch .1 (d .output-holds, d .scratch-holds));
         covered = omega (arith, d .covered);
         rest = omega (arith, d .rest);
       },
@@ -54,7 +58,7 @@ module _ (v : Seen) (l : Limits) where
 
   -- so what an inspection gave can be decoded, into buffers that hold it and for the sum of fees
   module _ (page u w : ℕ) (h : Handle) (gave : inspectedOf v page l u ≡ Picture h w) (units : u ≤ 18446744073709551615) where
-    handle-given : Given v l h
+    pub handle-given : Given v l h
     handle-given =
         let i = inspection-exact v page l u w h .0 gave in
         let left = 18446744073709551615 - chargeOf v page in

@@ -3,6 +3,10 @@ pub mod Segments
 pub mod Strict
 pub mod Bounds
 pub mod Handles
+pub mod Reading
+pub mod Numbers
+pub mod Images
+pub mod Words
 pub mod Decoded
 pub mod Upstream
 pub mod Patchy
@@ -10,3 +14,4 @@ pub mod Unseen
 pub mod Codes
 pub mod Marks
 pub mod Whole
+pub mod Lending

@@ -1,4 +1,5 @@
--- The segments of a picture: their checks hold exactly if each of them is fine, and miss nothing of a file that came whole.
+-- The segments of a picture: their checks hold exactly if each of them is fine, and give no numbers but 1 to 7 and, for bytes that did
+-- not come, 8.
 use Prim.Native.Nat.{ℕ, zero, suc, _+_, _-_, _*_, _<_, _≤_}
 use mathlib.Core.Path.{_≡_}
 use mathlib.Core.Logic.{_↔_, ⊎-elim, Iff·trans}
@@ -7,27 +8,20 @@ use mathlib.Core.Bool.{true}
 use native.Mathlib.Omega.{arith}
 use native.Mathlib.Nat.{eq-or-lt-of-le}
 use borrow.Author.Tests.{leb-true, le-leb}
-use Rattle.checks.specs.Numbers.{notArrived}
+use Rattle.checks.specs.Numbers.{truncated, invalid, limit, budget, notArrived}
 use Rattle.checks.specs.Checks.{pay, Holds, Never}
 use Rattle.checks.proofs.Exact.{both, never-both}
 use Rattle.seen.specs.Seen.{Seen, whole, there, There}
 use Rattle.seen.proofs.Words.{there-holds, holds-there}
 use Rattle.entries.specs.Values.{sizeOf, placeOf}
 use Rattle.logluv_format.specs.declared.Format.{Format}
-use Rattle.front.proofs.Arrival.{missing-unusual, never-there}
+use Rattle.front.proofs.Arrival.{Unusual, not-given, never-there}
 use Rattle.logluv.specs.Packets.{lenOf, payloadOf, packetChecks}
 use Rattle.logluv_segment.specs.Segment.{areaOf, offsetOf, countOf, placeChecks, feeOf, roomChecks, planChecks, stored, storedChecks, segmentChecks, eachSegment}
 use Rattle.promises.specs.Strict.{Good, SegmentFine}
 
 there-fine : (v : Seen) (at n : ℕ) → Holds (there v at n) ↔ There v at n
 there-fine v at n = (holds-there v at n, there-holds v at n)
-
--- packets need no byte that could be missing
-never-packets : (stride : ℕ) (p : List ℕ) (skip left : ℕ) → Never notArrived (packetChecks stride p skip left)
-unfolding Never packetChecks
-never-packets stride [] skip left = (λ z. absurd (omega arith), tt)
-never-packets stride (n ∷ rest) (suc skip) left = never-packets stride rest skip left
-never-packets stride (n ∷ rest) zero left = (λ z. absurd (omega arith), (λ z. absurd (omega arith), (λ z. absurd (omega arith), never-packets stride rest (payloadOf n) (left - lenOf n))))
 
 module _ (v : Seen) (f : Format) where
   -- where the offset and the count of a segment lie, and their lengths
@@ -55,13 +49,6 @@ module _ (v : Seen) (f : Format) where
     λ p. let t = place-fine k .0 (p .0) in record { offset-there = t .0; count-there = t .1 .0; range-there = t .1 .1; packets = p .1 },
     λ g. (place-fine k .1 (g .offset-there, (g .count-there, g .range-there)), g .packets),
   )
-
-  never-place : ((start n : ℕ) → whole (v .came) start n ≡ true) → (k : ℕ) → Never notArrived (placeChecks v f k)
-  unfolding placeChecks
-  never-place all-came k =
-      let always : (at n : ℕ) → Never notArrived (there v at n) = never-there notArrived missing-unusual v (λ z. all-came) in
-      never-both notArrived (there v (offsetPlace k) offsetSize) (there v (countPlace k) countSize ++ there v (offsetOf v f k) (countOf v f k)) (always (offsetPlace k) offsetSize)
-      (never-both notArrived (there v (countPlace k) countSize) (there v (offsetOf v f k) (countOf v f k)) (always (countPlace k) countSize) (always (offsetOf v f k) (countOf v f k)))
 
 module _ (v : Seen) (f : Format) (maxOutput : ℕ) where
   module _ (k : ℕ) where
@@ -95,16 +82,38 @@ module _ (v : Seen) (f : Format) (maxOutput : ℕ) where
   pub segments-fine : (n : ℕ) → Holds (eachSegment v f maxOutput 0 n) ↔ ((k : ℕ) → k < n → SegmentFine v f maxOutput k)
   segments-fine n = Iff·trans (each-fine n 0) (λ g k l. g k (omega arith) (omega arith), λ g k a b. g k (omega arith))
 
-  -- of a file that came whole nothing is missing
-  module _ (all-came : (start n : ℕ) → whole (v .came) start n ≡ true) where
-    never-segment : (k : ℕ) → Never notArrived (segmentChecks v f maxOutput k)
-    unfolding Never segmentChecks planChecks roomChecks storedChecks
-    never-segment k =
-        never-both notArrived (planChecks v f maxOutput k) (pay (feeOf v f k) ∷ storedChecks v f k)
-        (never-both notArrived (placeChecks v f k) (roomChecks v f maxOutput k) (never-place v f all-came k) (λ z. absurd (omega arith), (λ z. absurd (omega arith), tt)))
-        (λ z. absurd (omega arith), never-packets (f .«block_width») (stored v f k) 0 (4 * areaOf f k))
+-- a number that is none of 1 to 7 is given by no segment, and 8 only for bytes that did not come
+module _ (number : ℕ) (unusual : Unusual number) where
+  never-packets : (stride : ℕ) (p : List ℕ) (skip left : ℕ) → Never number (packetChecks stride p skip left)
+  unfolding Never packetChecks
+  never-packets stride [] skip left = (not-given number unusual truncated (omega arith) (omega arith), tt)
+  never-packets stride (n ∷ rest) (suc skip) left = never-packets stride rest skip left
+  never-packets stride (n ∷ rest) zero left = (
+    not-given number unusual truncated (omega arith) (omega arith),
+    (not-given number unusual invalid (omega arith) (omega arith), (not-given number unusual invalid (omega arith) (omega arith), never-packets stride rest (payloadOf n) (left - lenOf n))),
+  )
 
-    pub never-segments : (n k : ℕ) → Never notArrived (eachSegment v f maxOutput k n)
-    unfolding Never eachSegment
-    never-segments zero k = tt
-    never-segments (suc n) k = never-both notArrived (segmentChecks v f maxOutput k) (eachSegment v f maxOutput (suc k) n) (never-segment k) (never-segments n (suc k))
+  module _ (v : Seen) (all-came : notArrived ≡ number → (start n : ℕ) → whole (v .came) start n ≡ true) (f : Format) where
+    never-place : (k : ℕ) → Never number (placeChecks v f k)
+    unfolding placeChecks
+    never-place k =
+        let always = never-there number unusual v all-came in
+        never-both number (there v (offsetPlace v f k) (offsetSize v f)) (there v (countPlace v f k) (countSize v f) ++ there v (offsetOf v f k) (countOf v f k)) (always (offsetPlace v f k) (offsetSize v f))
+        (never-both number (there v (countPlace v f k) (countSize v f)) (there v (offsetOf v f k) (countOf v f k)) (always (countPlace v f k) (countSize v f)) (always (offsetOf v f k) (countOf v f k)))
+
+    never-stored : (k : ℕ) → Never number (storedChecks v f k)
+    unfolding storedChecks
+    never-stored k = never-packets (f .«block_width») (stored v f k) 0 (4 * areaOf f k)
+
+    module _ (maxOutput : ℕ) where
+      never-segment : (k : ℕ) → Never number (segmentChecks v f maxOutput k)
+      unfolding Never segmentChecks planChecks roomChecks
+      never-segment k =
+          never-both number (planChecks v f maxOutput k) (pay (feeOf v f k) ∷ storedChecks v f k)
+          (never-both number (placeChecks v f k) (roomChecks v f maxOutput k) (never-place k) (not-given number unusual limit (omega arith) (omega arith), (not-given number unusual limit (omega arith) (omega arith), tt)))
+          (unusual budget (omega arith) (omega arith), never-stored k)
+
+      pub never-segments : (n k : ℕ) → Never number (eachSegment v f maxOutput k n)
+      unfolding Never eachSegment
+      never-segments zero k = tt
+      never-segments (suc n) k = never-both number (segmentChecks v f maxOutput k) (eachSegment v f maxOutput (suc k) n) (never-segment k) (never-segments n (suc k))

@@ -4,15 +4,16 @@ use Prim.Native.Nat.{ℕ, _-_, _<_, _≤_}
 use mathlib.Core.Path.{_≡_, refl, ap, _∙_}
 use mathlib.Core.Logic.{_↔_, Iff·trans}
 use mathlib.Core.List.{List, []}
+use mathlib.Core.Bool.{true}
 use native.Mathlib.Omega.{arith}
 use borrow.Author.Tests.{leb-true, le-leb, ltb-true, lt-ltb}
-use Rattle.checks.specs.Numbers.{notArrived}
+use Rattle.checks.specs.Numbers.{limit, notArrived}
 use Rattle.checks.specs.Checks.{run, Holds, cost, Never}
 use Rattle.checks.specs.declared.Told.{Told}
 use Rattle.checks.specs.declared.Told.the-variants as told-is
 use Rattle.checks.proofs.Exact.{Exact, accepted, both, cost-then, never, never-both}
 use Rattle.checks.proofs.Refusals.{RefusedAt, refused}
-use Rattle.seen.specs.Seen.{Seen, seen}
+use Rattle.seen.specs.Seen.{Seen, seen, whole}
 use Rattle.seen.proofs.Alike.{whole-came}
 use Rattle.tiff.specs.Header.{limitChecks, big, firstOf}
 use Rattle.tiff.specs.Directory.{entriesAt, slotsAt}
@@ -20,7 +21,7 @@ use Rattle.tiff.specs.Walk.{pageAt}
 use Rattle.tiff.specs.declared.Limits.{Limits}
 use Rattle.front.specs.Front.{frontChecks, formatSeen}
 use Rattle.front.proofs.Accepted.{valid, front-holds, front-cost}
-use Rattle.front.proofs.Arrival.{missing-unusual, never-front}
+use Rattle.front.proofs.Arrival.{Unusual, missing-unusual, not-given, never-front}
 use Rattle.logluv_format.specs.Readable.{Valid}
 use Rattle.logluv_tiff.specs.Strict.{segmentsChecks, handleOf, pictureChecks, inspectChecks, inspected, inspectedOf}
 use Rattle.logluv_tiff.specs.declared.Handle.{Handle}
@@ -53,7 +54,7 @@ module _ (v : Seen) (page : ℕ) (l : Limits) where
       let at = pageAt v (big v) page (firstOf v) in
       valid v (big v) (entriesAt v (big v) at) (slotsAt v (big v) at) l (p .profile)
 
-  picture-fine : Holds (inspectChecks v page l) ↔ PictureFine v page l
+  pub picture-fine : Holds (inspectChecks v page l) ↔ PictureFine v page l
   unfolding inspectChecks pictureChecks segmentsChecks
   picture-fine =
       let f = formatSeen v page in
@@ -62,7 +63,7 @@ module _ (v : Seen) (page : ℕ) (l : Limits) where
         λ f. let g = page-is-fine .1 (f .page-fine) in (g .0, (g .1, f .each-segment)),
       )
 
-  picture-cost : cost (inspectChecks v page l) ≡ chargeOf v page
+  pub picture-cost : cost (inspectChecks v page l) ≡ chargeOf v page
   unfolding cost inspectChecks pictureChecks segmentsChecks
   picture-cost =
       let f = formatSeen v page in
@@ -87,7 +88,10 @@ module _ (v : Seen) (page : ℕ) (l : Limits) where
             rw g at (passes (accepted (inspectChecks v page l) u w .0 (e ∙ ap told-is.Passed z)))
         by (told-is.Refused n x) e q = let z : _≡_ {A = ℕ} 0 1 = cc in absurd (omega arith)
 
-    told-refused : (e : ℕ) → inspectedOf v page l u ≡ Refused e w → run (inspectChecks v page l) u ≡ told-is.Refused e w
+    pub told-passed : (h : Handle) → inspectedOf v page l u ≡ Picture h w → run (inspectChecks v page l) u ≡ told-is.Passed w
+    told-passed h q = accepted (inspectChecks v page l) u w .1 (is-exact h (inspection-exact h .0 q))
+
+    pub told-refused : (e : ℕ) → inspectedOf v page l u ≡ Refused e w → run (inspectChecks v page l) u ≡ told-is.Refused e w
     told-refused e q = by (run (inspectChecks v page l) u) q
       where
         by : (t : Told) → inspected t (handleOf v page) ≡ Refused e w → t ≡ told-is.Refused e w
@@ -109,13 +113,16 @@ module _ (v : Seen) (page : ℕ) (l : Limits) where
     ),
   )
 
+-- a number that is none of 1 to 7 is given by no check, and 8 only for bytes that did not come
+pub never-inspect : (number : ℕ) → Unusual number → (v : Seen) → (notArrived ≡ number → (start n : ℕ) → whole (v .came) start n ≡ true) → (page : ℕ) (l : Limits) → Never number (inspectChecks v page l)
+unfolding Never inspectChecks pictureChecks segmentsChecks
+never-inspect number unusual v all-came page l =
+    let f = formatSeen v page in
+    never-both number (limitChecks (v .size) page l) (pictureChecks v page l) (not-given number unusual limit (omega arith) (omega arith), (not-given number unusual limit (omega arith) (omega arith), tt))
+    (never-both number (frontChecks v page l) (segmentsChecks v f (l .«max_output»)) (never-front number unusual v all-came page l) (never-segments number unusual v all-came f (l .«max_output») (f .segments) 0))
+
 -- of a file that came whole nothing is missing
 pub never-missing-strict : (file : List ℕ) (page : ℕ) (l : Limits) (u w : ℕ) → inspectedOf (seen file []) page l u ≡ Refused notArrived w → ⊥
-unfolding Never inspectChecks pictureChecks segmentsChecks
 never-missing-strict file page l u w q =
     let v = seen file [] in
-    let f = formatSeen v page in
-    never notArrived (inspectChecks v page l) u w
-    (never-both notArrived (limitChecks (v .size) page l) (pictureChecks v page l) (λ z. absurd (omega arith), (λ z. absurd (omega arith), tt))
-    (never-both notArrived (frontChecks v page l) (segmentsChecks v f (l .«max_output»)) (never-front notArrived missing-unusual v (λ z. whole-came file) page l) (never-segments v f (l .«max_output») (whole-came file) (f .segments) 0)))
-    (told-refused v page l u w notArrived q)
+    never notArrived (inspectChecks v page l) u w (never-inspect notArrived missing-unusual v (λ z. whole-came file) page l) (told-refused v page l u w notArrived q)

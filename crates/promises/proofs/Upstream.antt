@@ -91,7 +91,7 @@ module _ (v : Seen) (f : Format) (maxInput maxOutput k : ℕ) (small : v .size �
           let z : w ≡ u = same-left n u e w (sym s ∙ q) in
           omega arith
 
-output-small : (v : Seen) (b : Bool) (entries : ℕ) (slots : List ℕ) (l : Limits) → ProfileFine v b slots l → formatOf v b entries slots .output ≤ l .«max_output»
+pub output-small : (v : Seen) (b : Bool) (entries : ℕ) (slots : List ℕ) (l : Limits) → ProfileFine v b slots l → formatOf v b entries slots .output ≤ l .«max_output»
 unfolding formatIn shapeOf
 output-small v b entries slots l p = by (present (getD slots 15 0))
   where

@@ -1,3 +1,4 @@
 pub mod Marked
 pub mod Strict
+pub mod Words
 pub mod Patchy

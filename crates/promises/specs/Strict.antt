@@ -1,5 +1,5 @@
 -- Strict reading without order: what is true of a page exactly if its inspection succeeds, what that charges and gives, when decode of a
--- handle succeeds, and what it shows. Strict reading sees a file whole: its v is `seen file []`.
+-- handle succeeds, or both in one call, and what is shown. Strict reading sees a file whole: its v is `seen file []`.
 use Prim.Native.Nat.{ℕ, _+_, _-_, _*_, _%_, _<_, _≤_}
 use mathlib.Core.Path.{_≡_}
 use mathlib.Core.List.{List}
@@ -71,6 +71,15 @@ pub record Decodes (v : Seen) (l : Limits) (h : Handle) (output scratch u w : �
   pub scratch-holds : h .scratch ≤ scratch
   pub covered : h .work ≤ u
   pub rest : w ≡ u - h .work
+
+-- inspection of a page and decode of what it gives in one call, with u units at hand and w left: both are charged
+pub record ReadsPage (v : Seen) (page : ℕ) (l : Limits) (output scratch u w : ℕ) (h : Handle) : Type 0 where
+  pub fine : PictureFine v page l
+  pub output-holds : handleOf v page .format .output ≤ output
+  pub scratch-holds : handleOf v page .scratch ≤ scratch
+  pub covered : chargeOf v page + handleOf v page .work ≤ u
+  pub rest : w ≡ u - (chargeOf v page + handleOf v page .work)
+  pub handle-is : h ≡ handleOf v page
 
 -- the largest 10A of a format's segments: none needs more, and segment 0 needs so much
 pub record Largest (f : Format) (scratch : ℕ) : Type 0 where
