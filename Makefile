@@ -10,14 +10,8 @@ test:
 	@.ci/run
 
 vectors:
-	python3 tests/leaf_vectors.py
-	python3 tests/leaf_vectors.py --wrong
-	python3 tests/front_vectors.py
-	python3 tests/front_vectors.py --wrong
-	python3 tests/strict_vectors.py
-	python3 tests/strict_vectors.py --wrong
-	python3 tests/patchy_vectors.py
-	python3 tests/patchy_vectors.py --wrong
+	python3 tests/vectors.py
+	python3 tests/vectors.py --wrong
 	python3 tests/incident.py
 
 format:

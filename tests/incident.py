@@ -3,25 +3,25 @@
 
 usage: incident.py [--check]
 
-Without a word it writes crates/incident/data/previous.tif and crates/incident/stdout, the same bytes at every run. --check
-writes nothing, compares them with what is there, and exits with 1 where something differs.
+Without a word it writes crates/incident/data/*.tif and crates/incident/stdout, the same bytes at every run. --check writes
+nothing, compares them with what is there, and exits with 1 where something differs.
 
-data/camera.tif is libtiff's (c01_640x480_ring_l.tif), and so are its pixels: the script stops where those of its model have
-another CRC-32 than libtiff's report says. It stops as well where the lost block is not strip 31's alone, and where the model does
-not mark strip 31 and no other, leave it blank and the others as they are in the whole picture.
+data/camera.tif is a copy of libtiff's c01_640x480_ring_l.tif, as a program is run with its own crate's files alone. Its pixels are
+libtiff's: the script stops where those of its model have another CRC-32 than libtiff's report says. It stops as well where the lost
+block is not strip 31's alone, and where the model does not mark strip 31 and no other, leave it blank and the others as they are in
+the whole picture.
 """
-import os
 import sys
 import zlib
 
 sys.dont_write_bytecode = True  # no folder of compiled modules beside the scripts
-from front_vectors import STRIPS, Limits, Reading, but, picture
-from leaf_vectors import literal, run
-from patchy_vectors import all_but, blocks_in, patchy, turned
-from strict_vectors import PICTURES, value
-from vectors import folder, hold, write
+from common import folder, hold, write
+from front import STRIPS, Limits, Reading, but, picture
+from leaf import literal, run
+from libtiff import CAMERA, file_of, vouched
+from patchy import all_but, blocks_in, patchy, turned
+from strict import value
 
-CRATE = folder('incident')
 LIMITS = Limits(input=65536, output=1843200, dimension=640, directories=1, tags=20, segments=60)
 UNITS, LOST, STRIP = 10000000, 44, 31
 SHARE = 6 * 640 * 8     # the bytes of a strip in the picture
@@ -49,11 +49,6 @@ def previous():
     parts = [b''.join(row_packets(plane) for y in range(top, top + 8) for plane in planes(y)) for top in range(0, 480, 8)]
     return turned((but(STRIPS, (256, 3, 1, 640), (257, 3, 1, 480), (278, 3, 1, 8)), parts))
 
-def vouched():
-    """libtiff's CRC-32 of the camera's picture."""
-    with open(os.path.join(PICTURES, 'expected.txt')) as f:
-        return next(int(words.split()[8], 16) for words in f if words.startswith('c01_640x480_ring_l.tif 0 '))
-
 def shown(what, file, blocks, before):
     """The lines of one reading into a buffer, and what the buffer then has."""
     r = Reading(file, blocks, UNITS)
@@ -67,9 +62,7 @@ def shown(what, file, blocks, before):
             'not blank' if any(strip) else 'each byte zero'), ''))
 
 def made():
-    with open(os.path.join(CRATE, 'data', 'camera.tif'), 'rb') as f:
-        camera = f.read()
-    before, start = previous(), 512 * LOST
+    camera, before, start = file_of(CAMERA), previous(), 512 * LOST
     r = Reading(camera, b'', UNITS)
     f = picture(r, 0, LIMITS)
     ranges = [(value(r, f.offsets, k), value(r, f.counts, k)) for k in range(60)]
@@ -78,7 +71,7 @@ def made():
 
     none = bytes(LIMITS.output)
     whole, codes, camera_lines = shown("the camera's picture, whole", camera, b'', none)
-    assert zlib.crc32(whole) == vouched() and codes == [1] * 60
+    assert zlib.crc32(whole) == vouched()[CAMERA][0].crc and codes == [1] * 60
     old, codes, old_lines = shown('the previous picture, whole', before, b'', none)
     assert codes == [1] * 60
     text = camera_lines
@@ -92,7 +85,7 @@ def made():
             assert part == (bytes(SHARE) if k == STRIP else whole[k * SHARE:(k + 1) * SHARE]), k
         assert old[STRIP * SHARE:(STRIP + 1) * SHARE] != whole[STRIP * SHARE:(STRIP + 1) * SHARE]
         text += old_lines + lines
-    return {'data/previous.tif': before, 'stdout': text.encode()}
+    return {'data/camera.tif': camera, 'data/previous.tif': before, 'stdout': text.encode()}
 
 if __name__ == '__main__':
-    sys.exit((hold if sys.argv[1:] == ['--check'] else write)(CRATE, made()))
+    sys.exit((hold if sys.argv[1:] == ['--check'] else write)(folder('incident'), made()))

@@ -1,0 +1,912 @@
+"""Vectors for strict reading, and what document 01 says of each.
+
+The model is written from document 01's words (segments, packets, charges, Luv samples, strict decode, the
+work limit) on whole lists and unbounded numbers, over the models of the front part and of packets and
+pixels. It follows no code of this repository: a strip has the rows of the picture that lie in it, a
+segment is expanded whole before anyone looks for a pixel in it, each byte of the output is looked up by
+itself, and a handle is right if inspection gives the same one, so that an error of the code's running
+sums, parts of buffers and counters can't be repeated here.
+"""
+import collections
+import zlib
+
+from common import FILL, TOP, Draw, record_of
+from front import (LIMITS, NOTE, SIZES, STRIPS, TILES, WIDE, Limits, Reading, Refused, but, directories, limited, patched, picture,
+                   sizes_of, tiff)
+from leaf import CASE1, counted, expanded, good, listed, literal, packets, pixels, run
+
+# What inspection is asked for, what is done to its handle or to the limits, and what decode is given: its units, the lengths
+# of both buffers and, where it is not the same one, another file.
+Record = collections.namedtuple('Record', 'tag page limits units field value decode_units output scratch file other', defaults=(b'',))
+
+# ---- model ----
+
+Handle = collections.namedtuple('Handle', 'width height block_width block_height tiled across segments output big offsets counts'
+                                ' entries page scratch work')
+FIELDS = Handle._fields + tuple('max_' + name for name in Limits._fields)
+
+# Segments: the value of an array that stands for segment k. A single one stands in the entry itself.
+def value(r, array, k):
+    size = SIZES[array.kind]
+    if array.count == 1:
+        return r.number(array.field[:size])
+    return r.number(r.part(r.number(array.field) + size * k, size))
+
+# Segments: a strip has those rows of the picture that lie in it, a tile has all of its own.
+def rows(f, k):
+    if f.tiled:
+        return f.block_height
+    return len(range(f.height)[k * f.block_height:(k + 1) * f.block_height])
+
+# Segments: one by itself, up to its last packet; its stored bytes, its area and its fee.
+def segment(r, f, limits, k):
+    offset = value(r, f.offsets, k)
+    count = value(r, f.counts, k)
+    stored = r.part(offset, count)
+    area = f.block_width * rows(f, k)
+    if 10 * area > limits.output:
+        raise Refused(4)
+    fee = count + 20 * area + 1
+    if fee > TOP:
+        raise Refused(4)
+    r.charge(fee)
+    answer = packets(stored, 0, count, f.block_width, 4 * area)
+    if answer > 0:
+        raise Refused(answer)
+    return stored, area, fee
+
+# Inspection: the handle, and for decode the format and the stored bytes of each segment.
+def inspected(r, page, limits):
+    limited(len(r.file), page, limits)
+    f = picture(r, page, limits)
+    stored, areas, fees = zip(*(segment(r, f, limits, k) for k in range(f.segments)))
+    scratch, work = max(10 * area for area in areas), sum(fees)
+    return Handle(f.width, f.height, f.block_width, f.block_height, f.tiled, f.across, f.segments, f.output, f.order == 'big',
+                  f.offsets.place, f.counts.place, f.entries, page, scratch, work), f, stored
+
+# Luv samples: the pixels of each segment, and where each byte of the picture lies among them.
+def shown(f, stored):
+    segments = [pixels(expanded(part), f.block_width, rows(f, k), [FILL] * (6 * f.block_width * rows(f, k)))[1]
+                for k, part in enumerate(stored)]
+    def byte(x, y, c):
+        place = ((y % f.block_height) * f.block_width + x % f.block_width) * 6 + c
+        return segments[y // f.block_height * f.across + x // f.block_width][place]
+    return [byte(x, y, c) for y in range(f.height) for x in range(f.width) for c in range(6)]
+
+# Strict decode: the number, 0 where there is none, the units left, output and scratch.
+def decoded(file, limits, handle, units, output, scratch):
+    try:
+        own, f, stored = inspected(Reading(file, b'', TOP), handle.page, limits)
+    except Refused:
+        return 2, units, output, scratch
+    if handle != own:
+        return 2, units, output, scratch
+    if len(output) < handle.output:
+        return 6, units, output, scratch
+    if len(scratch) < handle.scratch:
+        return 6, units, output, scratch
+    if units < handle.work:
+        return 7, units, output, scratch
+    whole = shown(f, stored)
+    return 0, units - handle.work, whole + output[len(whole):], [0] * handle.scratch + scratch[handle.scratch:]
+
+# The work limit: upstream's formula, where it is at most the largest number.
+def work_limit(page, limits):
+    bound = (page + 1) * (limits.tags + 1) + 128 + limits.segments * (limits.input + 2 * limits.output + 1)
+    return 'over' if bound > TOP else '%d' % bound
+
+# A handle, or the limits of decode, with one field changed: they are counted from 1, and 0 stands for none.
+def altered(handle, limits, field, n):
+    if field == 0:
+        return handle, limits
+    name = FIELDS[field - 1]
+    if name in Handle._fields:
+        return handle._replace(**{name: n == 1 if name in ('tiled', 'big') else n}), limits
+    return handle, limits._replace(**{name[4:]: n})
+
+# What the program writes of a handle, and of a record.
+def handle_of(h):
+    return '%s, entries %d, page %d, scratch %d, work %d' % (sizes_of(h), h.entries, h.page, h.scratch, h.work)
+
+def line(kind, r):
+    if kind == 'bound':
+        return '%-16s %s' % (r.tag, work_limit(r.page, r.limits))
+    handle, said = Handle(*(0,) * len(Handle._fields)), ''
+    if kind != 'forged':
+        reading = Reading(r.file, b'', r.units)
+        try:
+            handle, f, stored = inspected(reading, r.page, r.limits)
+        except Refused as why:
+            return '%-16s refused %d, left %d' % (r.tag, why.args[0], reading.left)
+        said = '%s, left %d;' % (handle_of(handle), reading.left)
+    handle, limits = altered(handle, r.limits, r.field, r.value)
+    answer, left, output, scratch = decoded(r.other or r.file, limits, handle, r.decode_units, [FILL] * r.output, [FILL] * r.scratch)
+    return '%-16s%s %s, left %d, output %08x, scratch %08x' % (
+        r.tag, said, 'refused %d' % answer if answer > 0 else 'decoded', left,
+        zlib.crc32(bytes(output)), zlib.crc32(bytes(scratch)))
+
+# ---- end of the model ----
+
+# ---- a writer of files ----
+
+LOTS = 1000000      # units that suffice for any inspection here
+
+def coded(width, height, seed):
+    """Packets of a block: each row of a plane is a literal, a run, or two of these."""
+    made = b''
+    for i in range(4 * height):
+        row, way = counted(width, 3 * seed + i), (seed + i) % 4 if width > 2 else 0
+        if way == 0:
+            made += literal(row)
+        elif way == 1:
+            made += run(width, row[0])
+        elif way == 2:
+            made += literal(row[:1]) + run(width - 1, row[1])
+        else:
+            made += literal(row[:-1]) + literal(row[-1:])
+    return made
+
+def flat(width, height, seed):
+    """Packets of a block: each row of a plane is one run."""
+    return b''.join(run(width, (50 * seed + 37 * i) % 256) for i in range(4 * height))
+
+def strips(width, height, high, make=coded, seed=0):
+    """The entries of a picture in strips of so many rows, and the packets of each."""
+    parts = [make(width, min(high, height - y), seed + k) for k, y in enumerate(range(0, height, high))]
+    return but(STRIPS, (256, 3, 1, width), (257, 3, 1, height), (278, 3, 1, high)), parts
+
+def tiles(width, height, make=flat, seed=0, wide=16, high=16):
+    """The same of a picture in tiles."""
+    n = len(range(0, width, wide)) * len(range(0, height, high))
+    sides = (256, 3, 1, width), (257, 3, 1, height), (322, 3, 1, wide), (323, 3, 1, high)
+    return but(TILES, *sides), [make(wide, high, seed + k) for k in range(n)]
+
+def laid(*pages, big=False, kinds=(4, 4), last=None, after=0):
+    """A file of pages: each has a directory, its arrays and its segments behind that, and the array of the tag last behind these."""
+    at, made, data = 8, [], []
+    for entries, parts in pages:
+        tags = (324, 325) if any(e[0] == 324 for e in entries) else (273, 279)
+
+        def directory(offsets, end):
+            columns = (offsets, [len(part) for part in parts])
+            values = (c[0] if len(c) == 1 else (end, c) if tag == last and end else c for tag, c in zip(tags, columns))
+            return but(entries, *((tag, kind, len(parts), v) for tag, kind, v in zip(tags, kinds, values)))
+
+        base = len(tiff([(at, directory([0] * len(parts), None), 0)], big))
+        offsets = [base + len(b''.join(parts[:k])) for k in range(len(parts))]
+        end = base + len(b''.join(parts))
+        made.append((at, directory(offsets, end)))
+        data.append((base, b''.join(parts)))
+        at = end + (4 * len(parts) if last else 0)
+    starts = [at for at, entries in made] + [after]
+    file = tiff([(at, entries, starts[i + 1]) for i, (at, entries) in enumerate(made)], big)
+    for base, part in data:
+        file = patched(file, base, part)
+    return file
+
+OFFSETS, COUNTS = 0, 1
+
+def array_of(file, which, page=0):
+    """An array of a page, as its entry; and a reading of the file, which knows the order of its numbers."""
+    r = Reading(file, b'', TOP)
+    slots = directories(r, page, Limits(**WIDE))[0]
+    return r, slots[((6, 10), (15, 16))[15 in slots][which]]
+
+def place_of(file, which, k, page=0):
+    """Where value k of an array stands, and how many bytes it has."""
+    r, e = array_of(file, which, page)
+    return e.place + 8 if e.count == 1 else r.number(e.field) + SIZES[e.kind] * k, SIZES[e.kind]
+
+def value_of(file, which, k, page=0):
+    r, e = array_of(file, which, page)
+    return value(r, e, k)
+
+def with_value(file, which, k, n, page=0):
+    """The file with another number as value k of an array."""
+    place, size = place_of(file, which, k, page)
+    return patched(file, place, n.to_bytes(size, array_of(file, which, page)[0].order))
+
+def with_base(file, which, n):
+    """The file with another number as the place of an array."""
+    r, e = array_of(file, which)
+    return patched(file, e.place + 8, n.to_bytes(4, r.order))
+
+def with_range(file, k, offset, count):
+    return with_value(with_value(file, OFFSETS, k, offset), COUNTS, k, count)
+
+def with_part(file, k, part):
+    """The file with other packets as segment k, put at its end."""
+    return with_range(file, k, len(file), len(part)) + part
+
+def record(tag, file, page=0, units=LOTS, change=None, to=None, more=(0, 0, 0), other=b'', **limits):
+    """A record whose decode has the units, the output and the scratch that the handle asks for, and so many more. A change is a
+    field's name and how much is added to it; to, the name of a field or a limit and its new number."""
+    limits, handle = LIMITS._replace(**limits), None
+    try:
+        handle = inspected(Reading(file, b'', units), page, limits)[0]
+        lent = [max(0, need + n) for need, n in zip((handle.work, handle.output, handle.scratch), more)]
+    except Refused:
+        lent = 0, 0, 0
+    if change and handle:
+        to = change[0], getattr(handle, change[0]) + change[1]
+    field, n = (FIELDS.index(to[0]) + 1, to[1]) if to else (0, 0)
+    return Record(tag, page, limits, units, field, n, *lent, file, other)
+
+# ---- vectors ----
+
+STRIP3, TILE2 = strips(3, 5, 2), tiles(17, 5)
+ORDERS = ('l', False), ('b', True)
+KINDS = (4, 4), (3, 3), (3, 4), (4, 3)
+
+def drawn_block(width, height, seed):
+    """Packets of a block that may be wider than a packet is long."""
+    return good(Draw(seed + 1), 4 * width * height, width, (40, 127, 128, 129))
+
+def marked(part):
+    """The file of two pixels, with the packets of a marked case."""
+    return laid((strips(2, 1, 1)[0], [part]))
+
+def layouts():
+    # both orders, and arrays of either type: three strips, one, two, and two tiles
+    for s, big in ORDERS:
+        for kinds in KINDS:
+            t = '%d%d%s' % (kinds + (s,))
+            yield record('strips-' + t, laid(STRIP3, big=big, kinds=kinds))
+            yield record('strip-' + t, laid(strips(3, 5, 5, seed=1), big=big, kinds=kinds))
+            yield record('two-strips-' + t, laid(strips(3, 4, 2, seed=2), big=big, kinds=kinds))
+            yield record('tiles-' + t, laid(TILE2, big=big, kinds=kinds))
+        yield record('tile-' + s, laid(tiles(5, 16, coded), big=big))
+        yield record('edge-tiles-' + s, laid(tiles(17, 17, coded), big=big))
+    # one pixel, one row, one column, last strips that are full or short by some rows, one row to a strip
+    for width, height, high in ((1, 1, 1), (1, 5, 2), (1, 7, 3), (2, 2, 1), (2, 9, 4), (3, 3, 2), (3, 6, 2), (4, 7, 1), (5, 5, 4),
+                                (7, 1, 9), (8, 8, 8), (9, 10, 3), (127, 2, 1)):
+        yield record('%dx%d-by-%d' % (width, height, high), laid(strips(width, height, high, seed=height), big=width % 2 == 0))
+    for width, height, high in ((128, 1, 1), (129, 2, 2), (130, 3, 2), (300, 1, 1)):
+        yield record('%dx%d-by-%d' % (width, height, high), laid(strips(width, height, high, drawn_block), big=width % 2 == 1))
+    yield record('no-rows', laid((but(STRIPS, 278), [coded(3, 5, 3)])))
+    yield record('many-strips', laid(strips(1, 60, 1)))
+    # tiles that are whole, that stick out to the right, below and both, and sides that differ
+    for width, height, wide, high in ((16, 16, 16, 16), (1, 1, 16, 16), (15, 17, 16, 16), (32, 32, 16, 16), (33, 5, 16, 16),
+                                      (5, 33, 16, 16), (33, 17, 32, 16), (17, 33, 16, 32), (40, 3, 48, 16)):
+        yield record('%dx%d-%dx%d' % (width, height, wide, high), laid(tiles(width, height, seed=width, wide=wide, high=high)))
+    yield record('tiles-detailed', laid(tiles(20, 3, coded, wide=16)))
+    yield record('tiles-32-detail', laid(tiles(33, 2, coded, wide=32), big=True))
+    # pages
+    three = laid(STRIP3, TILE2, strips(4, 3, 2, seed=5))
+    for page in range(4):
+        yield record('three-pages-%d' % page, three, page=page)
+    for page in range(2):
+        yield record('two-pages-%d' % page, laid(strips(2, 3, 1), strips(3, 2, 2), big=True), page=page)
+    for page in range(5):
+        yield record('loop-%d' % page, laid(strips(2, 3, 2), after=8), page=page)
+    yield record('loop-7', laid(strips(2, 3, 2), after=8), page=7, directories=8)
+    # where the parts of a file stand is free: arrays behind the segments, segments backwards, twice, one inside another
+    yield record('offsets-last', laid(STRIP3, last=273))
+    yield record('counts-last', laid(STRIP3, last=279, big=True))
+    file = laid(strips(3, 6, 2, flat))
+    ranges_of = [(value_of(file, OFFSETS, k), value_of(file, COUNTS, k)) for k in range(3)]
+    yield record('backwards', with_range(with_range(file, 0, *ranges_of[2]), 2, *ranges_of[0]))
+    yield record('all-the-same', with_range(with_range(file, 0, *ranges_of[1]), 2, *ranges_of[1]))
+    one = laid(strips(1, 3, 1))
+    yield record('overlapping', with_range(with_range(one, 1, value_of(one, OFFSETS, 0) + 2, 8), 2, value_of(one, OFFSETS, 0) + 4, 8))
+    yield record('bytes-behind', laid(STRIP3) + b'?' * 9)
+    yield record('bytes-between', with_part(with_part(laid(STRIP3), 0, STRIP3[1][0]) + b'??', 1, STRIP3[1][1]))
+    # entries that nobody knows are counted
+    yield record('unknown', laid((STRIP3[0] + [NOTE] * 7, STRIP3[1])))
+    yield record('unknown-tiles', laid((TILE2[0] + [(700, 0, 0, 0)], TILE2[1]), big=True))
+    # the marked cases, and control 0 at each place
+    yield record('mark1', marked(CASE1))
+    yield record('mark2', marked(CASE1 + b'\x00'))
+    yield record('mark3', marked(b'\x83' + CASE1[1:]))
+    yield record('mark4-two-less', marked(CASE1[:-2]))
+    yield record('mark4-one-less', marked(CASE1[:-1]))
+    yield record('mark5', marked(CASE1 + b'\x01\x09'))
+    yield record('mark6', marked(b''))
+    yield record('zero-first', marked(b'\x00' + CASE1))
+    yield record('zero-between', marked(CASE1[:4] + b'\x00\x00' + CASE1[4:]))
+    yield record('zero-in-row', marked(b'\x01\x07\x00\x01\x07' + CASE1[2:]))
+    yield record('zero-many', marked(b'\x00' * 40 + CASE1 + b'\x00' * 40))
+    for k in range(3):
+        yield record('zero-strip-%d' % k, with_part(laid(STRIP3), k, b'\x00' + STRIP3[1][k] + b'\x00\x00'))
+    for k in range(2):
+        yield record('zero-tile-%d' % k, with_part(laid(TILE2), k, TILE2[1][k] + b'\x00'))
+
+def entries():
+    # an array at the end of the file, which is cut inside its last value, its last but one and its first
+    for which, last in ((OFFSETS, 273), (COUNTS, 279)):
+        for s, big in ORDERS:
+            for kinds in KINDS[:2]:
+                whole = laid(STRIP3, big=big, kinds=kinds, last=last)
+                size = SIZES[kinds[which]]
+                for cut in (0, 1, size, size + 1, 2 * size, 2 * size + 1, 3 * size):
+                    yield record('%s-%d%d%s-%d' % (('offset', 'count')[which], *kinds, s, cut), whole[:len(whole) - cut])
+    for last in (324, 325):
+        whole = laid(TILE2, last=last)
+        for cut in (0, 1, 4, 5, 8):
+            yield record('tile-%d-%d' % (last, cut), whole[:len(whole) - cut])
+    # places of arrays near the largest number of four bytes, where a sum of 32 bits would come back
+    for which in (OFFSETS, COUNTS):
+        for k in (1, 4, 6, 8, 12):
+            yield record('far-%d-%s' % (k, ('offset', 'count')[which]), with_base(laid(STRIP3, kinds=(3 + k % 2, 4)), which, 2 ** 32 - k))
+        yield record('base-0-%s' % ('offset', 'count')[which], with_base(laid(STRIP3), which, 0))
+    # what is wrong with an earlier segment counts before an entry of a later one, and the other way round
+    for last, name in ((273, 'offset'), (279, 'count')):
+        whole = laid(STRIP3, last=last)
+        bad = whole.replace(STRIP3[1][0], b'\xff' + STRIP3[1][0][1:])
+        for cut in (1, 5, 12):
+            yield record('bad-0-%s-%d' % (name, cut), bad[:-cut])
+        bad = whole.replace(STRIP3[1][2], b'\xff' + STRIP3[1][2][1:])
+        yield record('bad-2-%s-1' % name, bad[:-1])
+        yield record('bad-2-%s-5' % name, bad[:-5])
+        yield record('units-%s-12' % name, whole[:-12], units=139)
+
+def ranges():
+    # outside by one, by much, and just inside, in each segment; an empty range at the file's end is inside
+    for name, file in (('strip', laid(STRIP3)), ('strip-b', laid(STRIP3, big=True)), ('tile', laid(TILE2))):
+        n = len(file)
+        for k in (0, 1, 2) if name != 'tile' else (0, 1):
+            offset, count = value_of(file, OFFSETS, k), value_of(file, COUNTS, k)
+            for way, start, size in (('to-end', offset, n - offset), ('out-1', offset, n - offset + 1), ('end-0', n, 0), ('end-1', n, 1),
+                                     ('past-0', n + 1, 0), ('last-1', n - 1, 1), ('last-2', n - 1, 2), ('empty', offset, 0),
+                                     ('far-0', 2 ** 32 - 1, 0), ('far-wrap', 2 ** 32 - 8, count + 8), ('far-count', offset, 2 ** 32 - 1),
+                                     ('short', offset, count - 1), ('later', offset + 1, count - 1)):
+                if name != 'strip-b' or way in ('to-end', 'out-1', 'end-0', 'past-0'):
+                    yield record('%s%d-%s' % (name, k, way), with_range(file, k, start, size))
+    for which in (OFFSETS, COUNTS):
+        short = laid(STRIP3, kinds=(3, 3))
+        yield record('two-bytes-%d' % which, with_value(short, which, 2, 65535))
+    yield record('one-out', with_range(laid(strips(3, 5, 5)), 0, 200, 2000))
+    yield record('one-end', with_range(laid(strips(3, 5, 5)), 0, len(laid(strips(3, 5, 5))), 0))
+    # 10A against max_output, where that is more than the picture's own bytes
+    single, most, tile = laid(strips(3, 5, 5)), laid(strips(3, 3, 2)), laid(TILE2)
+    for n in (89, 90, 91, 149, 150, 151):
+        yield record('strip-10A-%d' % n, single, output=n)
+    for n in (53, 54, 59, 60, 61):
+        yield record('strips-10A-%d' % n, most, output=n)
+    for n in (509, 510, 2559, 2560, 2561):
+        yield record('tiles-10A-%d' % n, tile, output=n)
+    for n in (89, 90):
+        yield record('small-10A-%d' % n, laid(STRIP3), output=n)
+    for name, file, n in (('strips', most, 59), ('tiles', tile, 2559)):
+        yield record('%s-10A-out' % name, with_range(file, 0, len(file), 1), output=n)
+        yield record('%s-10A-out-1' % name, with_range(file, 1, len(file), 1), output=n)
+        yield record('%s-10A-base' % name, with_base(file, OFFSETS, 5000), output=n)
+        yield record('%s-10A-count' % name, with_base(file, COUNTS, 5000), output=n)
+        yield record('%s-10A-bad' % name, with_range(file, 0, 8, 2), output=n)
+        yield record('%s-10A-units' % name, file, output=n, units=141)
+        yield record('%s-10A-128' % name, file, output=n, units=138)
+
+class Charged(Reading):
+    """A reading with units for anything, which keeps its charges."""
+    def __init__(self, file):
+        super().__init__(file, b'', TOP)
+        self.taken = []
+
+    def charge(self, units):
+        super().charge(units)
+        self.taken.append(units)
+
+def budgets():
+    # one short at each charge, and just enough
+    bases = (('strips', laid(STRIP3), 0), ('tiles', laid(TILE2, big=True), 0), ('one', laid(strips(2, 3, 3)), 0),
+             ('second', laid(strips(1, 2, 2), STRIP3), 1), ('loop', laid(strips(2, 3, 2), after=8), 2))
+    for name, file, page in bases:
+        r = Charged(file)
+        inspected(r, page, LIMITS)
+        for i in range(len(r.taken)):
+            enough = sum(r.taken[:i + 1])
+            for way, units in (('less', enough - 1), ('just', enough), ('more', enough + 1)):
+                if way != 'more' or i + 1 == len(r.taken):
+                    yield record('%s-%s-%d' % (name, way, i), file, page=page, units=units)
+        yield record(name + '-0', file, page=page, units=0)
+        yield record(name + '-top', file, page=page, units=TOP)
+    # the fee comes after the range and before the packets, segment by segment
+    file, heights = laid(STRIP3), (2, 2, 1)
+    fees = [len(part) + 60 * height + 1 for part, height in zip(STRIP3[1], heights)]
+    for k in range(3):
+        before = 139 + sum(fees[:k])
+        bad, fee = with_part(file, k, b'\xff'), 1 + 60 * heights[k] + 1
+        yield record('bad-less-%d' % k, bad, units=before + fee - 1)
+        yield record('bad-just-%d' % k, bad, units=before + fee)
+        out = with_range(file, k, len(file), 1)
+        yield record('out-less-%d' % k, out, units=before)
+        yield record('out-more-%d' % k, out, units=before + 500)
+        yield record('next-bad-%d' % k, with_part(file, (k + 1) % 3, b'\xff'), units=before + fees[k])
+
+def wrong_parts(width, plane_rows):
+    """Packets of a segment by what is amiss with them; fine and full-zero are accepted."""
+    lines = [counted(width, i) for i in range(plane_rows)]
+    whole = [literal(line) for line in lines]
+    most, end = b''.join(whole[:-1]), lines[-1]
+    yield 'fine', most + whole[-1]
+    yield 'past-lit', most + bytes([width]) + end[:-1]
+    yield 'past-run', most + bytes([width + 126])
+    yield 'past-long', most + b'\x7f' + end
+    yield 'past-first', b'\x03'
+    yield 'full-lit', most + whole[-1] + literal(b'?')
+    yield 'full-run', most + whole[-1] + run(2, 7)
+    yield 'full-past', most + whole[-1] + b'\x01'
+    yield 'full-zero', most + whole[-1] + b'\x00'
+    yield 'long-end', most + literal(end + b'?')
+    yield 'long-first', run(129, 7) + most
+    yield 'cross-first', literal(lines[0][:-1]) + run(2, 7) + literal(lines[1][1:]) + b''.join(whole[2:])
+    yield 'cross-last', b''.join(whole[:-2]) + literal(lines[-2][:-1]) + literal(b'??') + literal(end[1:])
+    yield 'cross-row', literal(lines[0] + lines[1]) + b''.join(whole[2:])
+    yield 'left-row', most
+    yield 'left-byte', most + literal(end[:-1])
+    yield 'nothing', b''
+    yield 'zeros', b'\x00' * 5
+
+def packets_refused():
+    for name, file, width, heights in (('s', laid(STRIP3), 3, (2, 2, 1)), ('t', laid(TILE2), 16, (16, 16))):
+        for k, height in enumerate(heights):
+            for way, part in wrong_parts(width, 4 * height):
+                if name == 's' or way in ('fine', 'past-lit', 'full-lit', 'full-zero', 'cross-first', 'cross-row', 'left-byte', 'nothing'):
+                    yield record('%s%d-%s' % (name, k, way), with_part(file, k, part))
+    # a short last tile, a full last strip, strips one row short or longer
+    yield record('short-tile', laid((TILE2[0], [flat(16, 5, 0), flat(16, 5, 1)])))
+    yield record('short-second', with_part(laid(TILE2), 1, flat(16, 5, 1)))
+    yield record('narrow-tile', with_part(laid(TILE2), 1, literal(b'x') * 64))
+    yield record('full-strip', with_part(laid(STRIP3), 2, coded(3, 2, 2)))
+    yield record('short-first', with_part(laid(STRIP3), 0, coded(3, 1, 0)))
+    yield record('short-second-s', with_part(laid(STRIP3), 1, coded(3, 1, 0)))
+    # the boundary is that of the block's width: not of a row of planes, nor of the picture
+    yield record('stride-12', with_part(laid(STRIP3), 1, literal(counted(12, 1)) * 2))
+    yield record('stride-6', with_part(laid(STRIP3), 1, literal(counted(6, 1)) * 4))
+    yield record('stride-17', with_part(laid(TILE2), 0, literal(counted(17, 1)) * 60 + literal(b'abcd')))
+    yield record('stride-8', with_part(laid(TILE2), 0, literal(counted(8, 1)) * 128))
+    yield record('own-start', with_part(laid(STRIP3), 0, literal(b'a') + literal(b'bcd') * 7 + literal(b'ef')))
+    # two segments that are wrong: the first counts
+    one, two = b'\x03', b'\xff\x00'
+    for i, j in ((0, 1), (0, 2), (1, 2)):
+        yield record('1-at-%d-2-at-%d' % (i, j), with_part(with_part(laid(STRIP3), i, one), j, two))
+        yield record('2-at-%d-1-at-%d' % (i, j), with_part(with_part(laid(STRIP3), i, two), j, one))
+        yield record('2-at-%d-out-%d' % (i, j), with_range(with_part(laid(STRIP3), i, two), j, 4000, 9))
+        yield record('out-%d-2-at-%d' % (i, j), with_range(with_part(laid(STRIP3), j, two), i, 4000, 9))
+
+def brief(field):
+    return field.replace('block_', 'b')
+
+def handles():
+    # each field altered, in strips and in tiles; what decode is lent suffices either way
+    for name, file, page in (('s', laid(STRIP3), 0), ('t', laid(TILE2, big=True), 0), ('p', laid(strips(1, 1, 1), strips(2, 3, 2)), 1)):
+        yield record(name + '-own', file, page=page)
+        for field in Handle._fields:
+            for way, n in (('+', 1), ('-', -1), ('+2^32', 2 ** 32)):
+                if field in ('tiled', 'big') and n != 1 or name != 's' and n == 2 ** 32 or field == 'page' and page + n < 0:
+                    continue
+                yield record('%s-%s%s' % (name, brief(field), way), file, page=page, change=(field, n), more=(9, 9, 9))
+    for field in Handle._fields:
+        yield record('zero-' + brief(field), laid(STRIP3, big=True), to=(field, 0), more=(9, 9, 9))
+    # a small need does not help
+    yield record('no-output', laid(STRIP3), to=('output', 0), more=(0, -90, 0))
+    yield record('no-scratch', laid(STRIP3), to=('scratch', 0), more=(0, 0, -60))
+    yield record('no-work', laid(STRIP3), to=('work', 0), more=(-LOTS, 0, 0))
+    # another page: of another picture, of one that is like it, the same directory again, and beyond the last
+    yield record('other-page', laid(STRIP3, TILE2), to=('page', 1), more=(9, 9, 9))
+    yield record('page-alike', laid(STRIP3, STRIP3), to=('page', 1), more=(9, 9, 9))
+    yield record('page-back', laid(STRIP3, STRIP3), page=1, to=('page', 0), more=(9, 9, 9))
+    for page in (0, 1, 2, 3, 4, TOP):
+        yield record('same-page-%s' % (page if page < TOP else 'top'), laid(STRIP3, after=8), to=('page', page), more=(9, 9, 9))
+    yield record('same-page-from-2', laid(STRIP3, after=8), page=2, to=('page', 1))
+    yield record('same-page-last', laid(STRIP3, after=8), page=1, to=('page', 0), directories=2)
+    yield record('same-page-limit', laid(STRIP3, after=8), page=1, to=('page', 2), directories=2)
+
+def decodes():
+    # the limits of decode: what just suffices, what does not, and the largest
+    for name, file, page in (('s', laid(STRIP3), 0), ('o', laid(strips(3, 5, 5), STRIP3), 0), ('t', laid(STRIP3, TILE2), 1)):
+        h, f, stored = inspected(Reading(file, b'', TOP), page, LIMITS)
+        for limit, n in zip(Limits._fields, (len(file), max(h.output, h.scratch), max(h.width, h.height), page + 1, h.entries, h.segments)):
+            for way, m in (('just', n), ('less', n - 1), ('top', TOP)):
+                if name == 's' or way != 'top':
+                    yield record('%s-max-%s-%s' % (name, limit[:4], way), file, page=page, to=('max_' + limit, m), more=(9, 9, 9))
+    # another file: other pixels, bytes behind the last, packets that are wrong, counts that differ, the other order, no file at all
+    file, pale = laid(strips(3, 5, 2, flat)), laid(strips(3, 5, 2, flat, seed=9))
+    yield record('file-pixels', file, other=pale)
+    yield record('file-longer', file, other=file + b'?')
+    yield record('file-shorter', file + b'?', other=file)
+    yield record('file-cut', file, other=file[:-1])
+    yield record('file-packets', file, other=file[:-2] + b'\xff?')
+    yield record('file-first', file, other=with_value(file, COUNTS, 0, 15))
+    yield record('file-work', with_part(file, 1, flat(3, 2, 1) + b'\x00'), other=file)
+    yield record('file-same-work', with_part(file, 1, flat(3, 2, 1) + b'\x00'), other=with_part(file, 2, flat(3, 1, 2) + b'\x00'))
+    yield record('file-moved', file, other=with_range(file, 0, value_of(file, OFFSETS, 1), value_of(file, COUNTS, 1)))
+    yield record('file-order', laid(STRIP3), other=laid(STRIP3, big=True))
+    yield record('file-none', file, other=b'?')
+    yield record('file-header', file, other=patched(file, 0, b'MM'))
+    yield record('file-pages', file, other=laid(strips(3, 5, 2, flat), TILE2))
+    yield record('file-unknown', file, other=laid((strips(3, 5, 2, flat)[0] + [NOTE], STRIP3[1])))
+
+def buffers():
+    # buffers and units, one short, more and none at all; bytes behind what is needed stay
+    for name, file in (('s', laid(STRIP3)), ('t', laid(TILE2)), ('b', laid(strips(2, 3, 2), big=True))):
+        for way, n in (('less', -1), ('none', -LOTS), ('more', 1), ('much', 100)):
+            yield record('%s-output-%s' % (name, way), file, more=(0, n, 0))
+            yield record('%s-scratch-%s' % (name, way), file, more=(0, 0, n))
+            yield record('%s-units-%s' % (name, way), file, more=(n, 0, 0))
+            yield record('%s-both-%s' % (name, way), file, more=(0, n, n))
+            yield record('%s-all-%s' % (name, way), file, more=(n, n, n))
+        yield record(name + '-units-top', file)._replace(decode_units=TOP)
+        yield record(name + '-long', file, more=(7, 1000, 2000))
+        yield record(name + '-6-and-7', file, more=(-1, 9, -1))
+        yield record(name + '-6-and-7-too', file, more=(-1, -1, 9))
+        yield record(name + '-2-and-6', file, change=('entries', 1), more=(9, -1, -1))
+        yield record(name + '-2-and-7', file, change=('offsets', 1), more=(-1, 9, 9))
+        yield record(name + '-2-6-7', file, change=('counts', 1), more=(-1, -1, -1))
+        yield record(name + '-2-none', file, change=('width', 1), more=(-LOTS, -LOTS, -LOTS))
+    # few units for inspection are as good as many, and those of decode are its own
+    r = Charged(laid(STRIP3))
+    inspected(r, 0, LIMITS)
+    whole = sum(r.taken)
+    yield record('units-exact', laid(STRIP3), units=whole)
+    yield record('units-exact-less', laid(STRIP3), units=whole, more=(-1, 0, 0))
+    yield record('units-apart', laid(STRIP3), units=TOP, more=(1, 0, 0))
+
+def forged():
+    """Handles of zeros, as after a refusal, but for one field."""
+    def zero(tag, file, to=(None, 0), lent=(0, 0, 0), **limits):
+        field = FIELDS.index(to[0]) + 1 if to[0] else 0
+        return Record(tag, 0, LIMITS._replace(**limits), 0, field, to[1], *lent, bytes(file))
+    own = laid(STRIP3)
+    for name, file in (('fine', own), ('packets', with_part(own, 2, b'')), ('tiles', laid(TILE2)), ('header', own[:7]), ('none', b''),
+                       ('first-0', patched(own, 4, bytes(4))), ('mark', b'?' * 40), ('entries', own[:60]),
+                       ('width-0', patched(own, 18, b'\x00')), ('range', own[:-1])):
+        yield zero('zeros-' + name, file)
+        yield zero('lent-' + name, file, lent=(LOTS, 90, 60))
+    for field, n in inspected(Charged(own), 0, LIMITS)[0]._asdict().items():
+        yield zero('only-' + brief(field), own, to=(field, n), lent=(LOTS, 90, 60))
+    yield zero('zeros-input', own, input=0)
+    yield zero('zeros-dirs', own, directories=0)
+    yield zero('zeros-page-top', own, to=('page', TOP))
+
+def bounds():
+    """Upstream's formula near 2^64, and where a part of it is large and the whole is not."""
+    def bound(tag, page, **limits):
+        return Record(tag, page, Limits(**{**dict.fromkeys(Limits._fields, 0), **limits}), *(0,) * 6, b'')
+    yield bound('zeros', 0)
+    yield bound('usual', 0, **LIMITS._asdict())
+    yield bound('usual-3', 3, **LIMITS._asdict())
+    yield bound('all-top', TOP, **WIDE)
+    yield bound('limits-top', 0, **WIDE)
+    for name in Limits._fields:
+        yield bound('one-' + name, 0, **{name: 1})
+        yield bound('top-' + name, 0, **{name: TOP})
+        yield bound('two-' + name, 4, **{**dict(input=5, output=7, tags=11, segments=3), name: 2})
+        yield bound('none-' + name, 4, **{**dict(input=5, output=7, dimension=9, directories=6, tags=11, segments=3), name: 0})
+    # pages and tags: (page + 1)(max_tags + 1) + 128
+    for n in (TOP - 130, TOP - 129, TOP - 128, TOP - 127, TOP - 1, TOP):
+        yield bound('page-top-%d' % (TOP - n), n)
+        yield bound('tags-top-%d' % (TOP - n), 0, tags=n)
+    half = 2 ** 32
+    for page, tags in ((half - 1, half - 1), (half - 2, half), (half - 2, half - 1), (half - 2, half - 2), (half, half - 2),
+                       (half - 3, half + 1), (1, 2 ** 63 - 66), (1, 2 ** 63 - 65), (1, 2 ** 63 - 1), (2 ** 63 - 66, 1), (2 ** 63 - 65, 1),
+                       (2, TOP // 3 - 43), (2, TOP // 3 - 44)):
+        yield bound('p%d-t%d' % (page % 1000, tags % 1000), page, tags=tags)
+    # no segments: whatever their bytes may be
+    yield bound('none-wide', 0, input=TOP, output=TOP)
+    yield bound('none-wide-just', TOP - 129, input=TOP, output=TOP)
+    yield bound('none-wide-over', TOP - 128, input=TOP, output=TOP)
+    yield bound('none-all-top', 0, **{**WIDE, 'segments': 0, 'tags': 0})
+    yield bound('none-tags-top', 0, **{**WIDE, 'segments': 0})
+    # segments: max_segments (max_input + 2 max_output + 1)
+    for n in (TOP - 131, TOP - 130, TOP - 129, TOP - 128, TOP - 1):
+        yield bound('input-%d' % (TOP - n), 0, segments=1, input=n)
+        yield bound('segments-%d' % (TOP - n), 0, segments=n)
+        yield bound('output-%d' % (TOP - n), 0, segments=1, output=n // 2, input=n % 2)
+    for name, segments, values in (
+            ('half-half', half, dict(input=half)), ('half-less', half, dict(input=half - 2)), ('half-out', half, dict(output=half // 2)),
+            ('half-out-less', half, dict(output=half // 2 - 1)), ('out-wraps', 1, dict(output=2 ** 63)),
+            ('out-wraps-2', 2, dict(output=2 ** 62)), ('out-top', 1, dict(output=TOP)), ('sum-wraps', 5, dict(input=TOP)),
+            ('in-and-out', 1, dict(input=2 ** 63, output=2 ** 62)), ('in-out-less', 1, dict(input=2 ** 63 - 200, output=2 ** 62)),
+            ('sum-wraps-0', 1, dict(input=1, output=2 ** 63 - 1)), ('thirds', 3, dict(input=TOP // 3 - 44)),
+            ('thirds-over', 3, dict(input=TOP // 3 - 43)), ('all-parts', 1000, dict(input=10 ** 10, output=10 ** 12, tags=10 ** 9))):
+        yield bound(name, 0, segments=segments, **values)
+        yield bound(name + '-p', 3, segments=segments, **values)
+
+def drawn(draw):
+    """A page: entries and packets."""
+    if draw.below(4) == 0:
+        long, short = draw.between(1, 36), draw.between(1, 16)
+        entries, parts = tiles(long, short) if draw.below(2) else tiles(short, long)
+        return entries, [good(draw, 4 * 16 * 16, 16, (4, 9, 40, 40, 40)) for _ in parts]
+    width, height = draw.between(1, 9), draw.between(1, 9)
+    high = draw.of((1, 2, 3, height, 9))
+    entries, parts = strips(width, height, high)
+    return entries, [good(draw, 4 * width * min(high, height - y), width) for y in range(0, height, high)]
+
+def damaged(draw, file, h):
+    """One place changed: a value of an array, a byte of a segment, any byte, or the file's end."""
+    kind, which, k = draw.below(8), draw.below(2), draw.below(h.segments)
+    place = draw.below(len(file))
+    if kind == 0:
+        return file[:-draw.between(1, 3)]
+    if kind < 3:
+        n, top = value_of(file, which, k, h.page), 256 ** place_of(file, which, k, h.page)[1] - 1
+        return with_value(file, which, k, min(top, draw.of((max(0, n - 1), n + 1, n + 2, 0, len(file), top))), h.page)
+    if kind < 7:
+        place = value_of(file, OFFSETS, k, h.page) + draw.below(value_of(file, COUNTS, k, h.page))
+    return patched(file, place, [draw.of((file[place] ^ 1 << draw.below(8), draw.below(256), 0, 128))])
+
+def random(name, seed, how_many):
+    draw = Draw(seed)
+    for i in range(how_many):
+        own = [drawn(draw) for _ in range(draw.of((1, 1, 1, 2)))]
+        page = draw.below(len(own))
+        file = laid(*own, big=draw.below(2) == 1, kinds=draw.of(KINDS), last=draw.of((None, None, 273, 279, 324, 325)))
+        r = Charged(file)
+        h = inspected(r, page, LIMITS)[0]
+        if draw.below(4) > 0:
+            file = damaged(draw, file, h)
+        limits = {}
+        if draw.below(6) == 0:
+            limits['output'] = draw.of((h.output, h.output - 1, h.scratch, h.scratch - 1, h.scratch + 1))
+        if draw.below(9) == 0:
+            limits['segments'] = draw.of((h.segments, h.segments - 1))
+        whole = sum(r.taken)
+        units = draw.of((LOTS, LOTS, LOTS, LOTS, LOTS, whole, whole - 1, sum(r.taken[:-1]), draw.below(whole), whole + draw.below(9)))
+        more = draw.of(((0, 0, 0), (0, 0, 0), (3, 20, 5), (-1, 0, 0), (0, -1, 0), (0, 0, -1), (9, 0, 9)))
+        change = (draw.of(Handle._fields), draw.of((1, 2, 16))) if draw.below(4) == 0 else None
+        yield record('%s-%03d' % (name, i), file, page, units, change, more=more, **limits)
+
+# In the order in which the program runs them: a file's name, what its records are, and the records.
+def files():
+    return [(name, kind, list(made)) for name, kind, made in (
+        ('layouts.bin', 'strict', layouts()),
+        ('entries.bin', 'strict', entries()),
+        ('ranges.bin', 'strict', ranges()),
+        ('budgets.bin', 'strict', budgets()),
+        ('packets.bin', 'strict', packets_refused()),
+        ('handles.bin', 'strict', handles()),
+        ('decodes.bin', 'strict', decodes()),
+        ('buffers.bin', 'strict', buffers()),
+        ('forged.bin', 'forged', forged()),
+        ('bounds.bin', 'bound', bounds()),
+        ('random_a.bin', 'strict', random('a', 1, 70)),
+        ('random_b.bin', 'strict', random('b', 2, 70)))]
+
+def packed(r):
+    return record_of(r.tag, (r.page, *r.limits, r.units, r.field, r.value, r.decode_units), (r.output, r.scratch), r.file, r.other)
+
+# Mistakes, each a change of one place of the model: what they are, the text and what stands there instead. Two of them need `listed`.
+WRONG = (
+    # values of arrays
+    ('a single value stands elsewhere', 'if array.count == 1:', 'if array.count == 0:'),
+    ('values that fit stand in the entry', 'if array.count == 1:\n        return r.number(array.field[:size])',
+     'if array.count * size <= 4:\n        return r.number((array.field * 2)[size * k:size * (k + 1)])'),
+    ('a single value has four bytes', 'array.field[:size]', 'array.field'),
+    ('a single value has two bytes', 'array.field[:size]', 'array.field[:2]'),
+    ('a single value is the last two bytes', 'array.field[:size]', 'array.field[4 - size:]'),
+    ('every value is the first', '+ size * k, size', '+ size * 0, size'),
+    ('values from the second on', '+ size * k, size', '+ size * (k + 1), size'),
+    ('values four bytes apart', '+ size * k, size', '+ 4 * k, size'),
+    ('values two bytes apart', '+ size * k, size', '+ 2 * k, size'),
+    ('values of four bytes', '    size = SIZES[array.kind]\n', '    size = 4\n'),
+    ('values of two bytes', '    size = SIZES[array.kind]\n', '    size = 2\n'),
+    ('the whole array is inside', '    return r.number(r.part(r.number(array.field)',
+     '    r.part(r.number(array.field), size * array.count)\n    return r.number(r.part(r.number(array.field)'),
+    ('values are cut at the end of the file', 'r.number(r.part(r.number(array.field) + size * k, size))',
+     'r.number(r.file[r.number(array.field) + size * k:][:size])'),
+    # rows
+    ('tiles are as high as the picture', '    if f.tiled:\n        return f.block_height\n',
+     '    if f.tiled:\n        return min(f.block_height, f.height)\n'),
+    ('the last tile is short', '    if f.tiled:\n        return f.block_height\n',
+     '    if f.tiled:\n        return min(f.block_height, f.height - k // f.across * f.block_height)\n'),
+    ('the last strip is full', 'return len(range(f.height)[k * f.block_height:(k + 1) * f.block_height])', 'return f.block_height'),
+    ('the last strip has what is left over', 'return len(range(f.height)[k * f.block_height:(k + 1) * f.block_height])',
+     'return f.height % f.block_height if k + 1 == f.segments else f.block_height'),
+    # a segment
+    ('offsets and counts swapped', 'offset = value(r, f.offsets, k)\n    count = value(r, f.counts, k)',
+     'offset = value(r, f.counts, k)\n    count = value(r, f.offsets, k)'),
+    ('all counts are the first', 'count = value(r, f.counts, k)', 'count = value(r, f.counts, 0)'),
+    ('all offsets are the first', 'offset = value(r, f.offsets, k)', 'offset = value(r, f.offsets, 0)'),
+    ('ranges are cut at the end of the file', 'stored = r.part(offset, count)',
+     'stored = r.file[offset:offset + count]\n    count = len(stored)'),
+    ('the end of a range wraps at 2^32', 'stored = r.part(offset, count)',
+     'stored = r.part(offset, count) if offset + count < 2 ** 32 else r.file[:(offset + count) % 2 ** 32]'),
+    ('an empty range at the end is outside', 'stored = r.part(offset, count)', 'stored = r.part(offset, max(count, 1))[:count]'),
+    ('an empty range lies anywhere', 'stored = r.part(offset, count)', "stored = r.part(offset, count) if count else b''"),
+    ('the last byte is outside', 'stored = r.part(offset, count)', 'stored = r.part(offset, count + 1)[:count]'),
+    ('a range outside is 2', '    stored = r.part(offset, count)\n',
+     '    if offset + count > len(r.file):\n        raise Refused(2)\n    stored = r.part(offset, count)\n'),
+    ('a range outside is charged', '    stored = r.part(offset, count)\n    area = f.block_width * rows(f, k)\n',
+     '    area = f.block_width * rows(f, k)\n    if offset + count > len(r.file):\n        r.charge(count + 20 * area + 1)\n'
+     '    stored = r.part(offset, count)\n'),
+    ('an empty range is a segment without pixels', '    area = f.block_width * rows(f, k)\n',
+     "    area = f.block_width * rows(f, k)\n    if count == 0:\n        return b'', area, 0\n"),
+    ('10A before the range',
+     '    stored = r.part(offset, count)\n    area = f.block_width * rows(f, k)\n    if 10 * area > limits.output:\n'
+     '        raise Refused(4)\n',
+     '    area = f.block_width * rows(f, k)\n    if 10 * area > limits.output:\n        raise Refused(4)\n'
+     '    stored = r.part(offset, count)\n'),
+    ('10A before the entries', '    offset = value(r, f.offsets, k)\n',
+     '    if 10 * f.block_width * rows(f, k) > limits.output:\n        raise Refused(4)\n    offset = value(r, f.offsets, k)\n'),
+    ('10A after the charge',
+     '    if 10 * area > limits.output:\n        raise Refused(4)\n    fee = count + 20 * area + 1\n    if fee > TOP:\n'
+     '        raise Refused(4)\n    r.charge(fee)\n',
+     '    fee = count + 20 * area + 1\n    r.charge(fee)\n    if 10 * area > limits.output:\n        raise Refused(4)\n'),
+    ('10A at the limit', 'if 10 * area > limits.output:', 'if 10 * area >= limits.output:'),
+    ('10A one above the limit', 'if 10 * area > limits.output:', 'if 10 * area > limits.output + 1:'),
+    ('10A is not limited', 'if 10 * area > limits.output:', 'if False:'),
+    ('6A is limited', 'if 10 * area > limits.output:', 'if 6 * area > limits.output:'),
+    ('4A is limited', 'if 10 * area > limits.output:', 'if 4 * area > limits.output:'),
+    ('10A above the limit is 6', '10 * area > limits.output:\n        raise Refused(4)',
+     '10 * area > limits.output:\n        raise Refused(6)'),
+    ('10A above the limit is 3', '10 * area > limits.output:\n        raise Refused(4)',
+     '10 * area > limits.output:\n        raise Refused(3)'),
+    ('the fee is one less', 'fee = count + 20 * area + 1', 'fee = count + 20 * area'),
+    ('the fee without the count', 'fee = count + 20 * area + 1', 'fee = 20 * area + 1'),
+    ('the fee by 10A', 'fee = count + 20 * area + 1', 'fee = count + 10 * area + 1'),
+    ('the fee by 21A', 'fee = count + 20 * area + 1', 'fee = count + 21 * area + 1'),
+    ('the fee by twice the count', 'fee = count + 20 * area + 1', 'fee = 2 * count + 20 * area + 1'),
+    ('the fee of a whole block', 'fee = count + 20 * area + 1', 'fee = count + 20 * f.block_width * f.block_height + 1'),
+    ('the fee of what is seen of a tile', 'fee = count + 20 * area + 1', 'fee = count + 20 * min(f.block_width, f.width) * rows(f, k) + 1'),
+    ('the charge after the packets', '    r.charge(fee)\n',
+     '    if packets(stored, 0, count, f.block_width, 4 * area) == 0:\n        r.charge(fee)\n'),
+    ('only the first fee is charged', 'r.charge(fee)', 'r.charge(fee if k == 0 else 0)'),
+    ('only the last fee is charged', 'r.charge(fee)', 'r.charge(fee if k + 1 == f.segments else 0)'),
+    ('packets are not looked at', 'answer = packets(stored, 0, count, f.block_width, 4 * area)', 'answer = 0'),
+    ('packets of the first segment alone', 'if answer > 0:', 'if answer > 0 and k == 0:'),
+    ('packets but those of the first segment', 'if answer > 0:', 'if answer > 0 and k > 0:'),
+    ('packets but those of the last segment', 'if answer > 0:', 'if answer > 0 and k + 1 < f.segments:'),
+    ('packets need 3A', '4 * area)\n    if answer', '3 * area)\n    if answer'),
+    ('packets need 6A', '4 * area)\n    if answer', '6 * area)\n    if answer'),
+    ('packets need a whole block', '4 * area)\n    if answer', '4 * f.block_width * f.block_height)\n    if answer'),
+    ('packets need what is seen of a tile', '4 * area)\n    if answer', '4 * min(f.block_width, f.width) * rows(f, k))\n    if answer'),
+    ('the stride is a row of planes', 'packets(stored, 0, count, f.block_width,', 'packets(stored, 0, count, 4 * f.block_width,'),
+    ('the stride is half of the width', 'packets(stored, 0, count, f.block_width,',
+     'packets(stored, 0, count, max(1, f.block_width // 2),'),
+    ("the stride is the picture's width", 'packets(stored, 0, count, f.block_width,', 'packets(stored, 0, count, f.width,'),
+    ('no stride', 'packets(stored, 0, count, f.block_width,', 'packets(stored, 0, count, TOP,'),
+    ('the last byte of a range is left out', 'packets(stored, 0, count, f.block_width,',
+     'packets(stored, 0, max(count, 1) - 1, f.block_width,'),
+    ('control 0 is refused', '    if answer > 0:\n',
+     '    if answer == 0 and any(c == 0 for c, _, _, _ in listed(stored)):\n        answer = 2\n    if answer > 0:\n'),
+    ('control 0 at the end is refused', '    if answer > 0:\n',
+     '    if answer == 0 and listed(stored)[-1][0] == 0:\n        answer = 2\n    if answer > 0:\n'),
+    ('bad packets are 1', 'raise Refused(answer)', 'raise Refused(1)'),
+    ('bad packets are 2', 'raise Refused(answer)', 'raise Refused(2)'),
+    ('bad packets are 3', 'raise Refused(answer)', 'raise Refused(3)'),
+    # inspection
+    ('the first limits are not tested', '    limited(len(r.file), page, limits)\n', ''),
+    ('the input is not limited', 'limited(len(r.file), page, limits)', 'limited(0, page, limits)'),
+    ('the page is not limited', 'limited(len(r.file), page, limits)', 'limited(len(r.file), 0, limits)'),
+    ('always the first page', 'f = picture(r, page, limits)', 'f = picture(r, 0, limits)'),
+    ('segments backwards', 'for k in range(f.segments)))', 'for k in range(f.segments)[::-1]))'),
+    ('all ranges before all packets', '    stored, areas, fees = zip',
+     '    for k in range(f.segments):\n        r.part(value(r, f.offsets, k), value(r, f.counts, k))\n    stored, areas, fees = zip'),
+    ('all entries before all ranges', '    stored, areas, fees = zip',
+     '    for k in range(f.segments):\n        value(r, f.offsets, k), value(r, f.counts, k)\n    stored, areas, fees = zip'),
+    ('one charge at the end', '    stored, areas, fees = zip',
+     '    left, r.left = r.left, TOP\n    charged = [segment(r, f, limits, k)[2] for k in range(f.segments)]\n    r.left = left\n'
+     '    r.charge(sum(charged))\n    r.left = left\n    stored, areas, fees = zip'),
+    ('scratch is the sum', 'scratch, work = max(10 * area for area in areas),', 'scratch, work = sum(10 * area for area in areas),'),
+    ('scratch is the last', 'scratch, work = max(10 * area for area in areas),', 'scratch, work = 10 * areas[-1],'),
+    ('scratch is the least', 'scratch, work = max(10 * area for area in areas),', 'scratch, work = min(10 * area for area in areas),'),
+    ('scratch is 4A', 'scratch, work = max(10 * area for area in areas),', 'scratch, work = max(4 * area for area in areas),'),
+    ('scratch is 6A', 'scratch, work = max(10 * area for area in areas),', 'scratch, work = max(6 * area for area in areas),'),
+    ('work has the 128', 'sum(fees)\n', 'sum(fees) + 128\n'),
+    ('work is all that is charged', 'sum(fees)\n', 'sum(fees) + 128 + f.entries + 1\n'),
+    ('work is the largest fee', 'sum(fees)\n', 'max(fees)\n'),
+    ('work is the last fee', 'sum(fees)\n', 'fees[-1]\n'),
+    ('the page is always 0', 'f.entries, page, scratch, work)', 'f.entries, 0, scratch, work)'),
+    ('the page is counted from 1', 'f.entries, page, scratch, work)', 'f.entries, page + 1, scratch, work)'),
+    ('no more than eleven entries are counted', 'f.counts.place, f.entries,', 'f.counts.place, min(f.entries, 11),'),
+    # pixels
+    ('segments column by column', 'segments[y // f.block_height * f.across + x // f.block_width]',
+     'segments[x // f.block_width * (len(segments) // f.across) + y // f.block_height]'),
+    ('one row of segments', 'segments[y // f.block_height * f.across + x // f.block_width]', 'segments[x // f.block_width]'),
+    ('one column of segments', 'segments[y // f.block_height * f.across + x // f.block_width]', 'segments[y // f.block_height * f.across]'),
+    ('segments of a row backwards', 'segments[y // f.block_height * f.across + x // f.block_width]',
+     'segments[y // f.block_height * f.across + f.across - 1 - x // f.block_width]'),
+    ("rows of the picture's width", '* f.block_width + x % f.block_width) * 6 + c',
+     '* min(f.width, f.block_width) + x % f.block_width) * 6 + c'),
+    ('only the first row of a segment', '((y % f.block_height) * f.block_width', '(0 * f.block_width'),
+    ('only the first column of a segment', '+ x % f.block_width) * 6 + c', ') * 6 + c'),
+    ("columns from the segment's right", '+ x % f.block_width) * 6 + c', '+ f.block_width - 1 - x % f.block_width) * 6 + c'),
+    ('bytes of a sample swapped', '* 6 + c\n', '* 6 + (c ^ 1)\n'),
+    ('u and v swapped', '* 6 + c\n', '* 6 + (0, 1, 4, 5, 2, 3)[c]\n'),
+    ('planes of a whole segment', 'pixels(expanded(part), f.block_width, rows(f, k),',
+     'pixels(expanded(part), f.block_width * rows(f, k), 1,'),
+    ('columns before rows', 'for y in range(f.height) for x in range(f.width) for c',
+     'for x in range(f.width) for y in range(f.height) for c'),
+    ('the picture from below', 'for y in range(f.height) for x', 'for y in range(f.height)[::-1] for x'),
+    ('tiles with their padding', 'for x in range(f.width) for c in range(6)]',
+     'for x in range(-(-f.width // f.block_width) * f.block_width) for c in range(6)]'),
+    ('the last row is left out', 'for y in range(f.height) for x', 'for y in range(max(1, f.height - 1)) for x'),
+    ('the last column is left out', 'for x in range(f.width) for c', 'for x in range(max(1, f.width - 1)) for c'),
+    ('the first segment for all', 'return segments[y //', 'return segments[0 * y //'),
+    # decode
+    ('the handle is inspected with its own units', "inspected(Reading(file, b'', TOP), handle.page, limits)",
+     "inspected(Reading(file, b'', units), handle.page, limits)"),
+    ('the handle is inspected with its own work', "inspected(Reading(file, b'', TOP), handle.page, limits)",
+     "inspected(Reading(file, b'', handle.work), handle.page, limits)"),
+    ("the handle's page is 0", "inspected(Reading(file, b'', TOP), handle.page, limits)", "inspected(Reading(file, b'', TOP), 0, limits)"),
+    ("a handle that can't be is 1", 'except Refused:\n        return 2,', 'except Refused:\n        return 1,'),
+    ('a handle of a refused page passes its number', 'except Refused:\n        return 2,',
+     'except Refused as why:\n        return why.args[0],'),
+    ('a forged handle is 3', 'if handle != own:\n        return 2,', 'if handle != own:\n        return 3,'),
+    ('any handle of an accepted page', 'if handle != own:', 'if False:'),
+    ('a forged handle zeroes output', 'if handle != own:\n        return 2, units, output, scratch',
+     'if handle != own:\n        return 2, units, [0] * len(output), scratch'),
+    ('a forged handle zeroes scratch', 'if handle != own:\n        return 2, units, output, scratch',
+     'if handle != own:\n        return 2, units, output, [0] * len(scratch)'),
+    ('a forged handle takes its work', 'if handle != own:\n        return 2, units,',
+     'if handle != own:\n        return 2, max(0, units - handle.work),'),
+    ('a forged handle takes all units', 'if handle != own:\n        return 2, units,', 'if handle != own:\n        return 2, 0,'),
+    ('a handle of zeros is empty', '    try:\n        own',
+     '    if not any(handle):\n        return 0, units, output, scratch\n    try:\n        own'),
+    ('buffers before the handle', '    try:\n        own',
+     '    if len(output) < handle.output or len(scratch) < handle.scratch:\n        return 6, units, output, scratch\n    try:\n'
+     '        own'),
+    ('units before the handle', '    try:\n        own',
+     '    if units < handle.work:\n        return 7, units, output, scratch\n    try:\n        own'),
+    ('units before the buffers', '    if len(output) < handle.output:\n',
+     '    if units < handle.work:\n        return 7, units, output, scratch\n    if len(output) < handle.output:\n'),
+    ('units between the buffers', '    if len(scratch) < handle.scratch:\n',
+     '    if units < handle.work:\n        return 7, units, output, scratch\n    if len(scratch) < handle.scratch:\n'),
+    ('output is not tested', 'if len(output) < handle.output:', 'if False:'),
+    ('output must be exact', 'if len(output) < handle.output:', 'if len(output) != handle.output:'),
+    ('output must be longer', 'if len(output) < handle.output:', 'if len(output) <= handle.output:'),
+    ('output may be one short', 'if len(output) < handle.output:', 'if len(output) + 1 < handle.output:'),
+    ('output short is 4', 'if len(output) < handle.output:\n        return 6,', 'if len(output) < handle.output:\n        return 4,'),
+    ('scratch is not tested', 'if len(scratch) < handle.scratch:', 'if False:'),
+    ('scratch must be exact', 'if len(scratch) < handle.scratch:', 'if len(scratch) != handle.scratch:'),
+    ('scratch may be one short', 'if len(scratch) < handle.scratch:', 'if len(scratch) + 1 < handle.scratch:'),
+    ('scratch short is 4', 'if len(scratch) < handle.scratch:\n        return 6,', 'if len(scratch) < handle.scratch:\n        return 4,'),
+    ('short scratch is zeroed', 'if len(scratch) < handle.scratch:\n        return 6, units, output, scratch',
+     'if len(scratch) < handle.scratch:\n        return 6, units, output, [0] * len(scratch)'),
+    ('short buffers are charged', 'if len(output) < handle.output:\n        return 6, units,',
+     'if len(output) < handle.output:\n        return 6, max(0, units - handle.work),'),
+    ('units must be more', 'if units < handle.work:', 'if units <= handle.work:'),
+    ('one unit short is let pass', 'if units < handle.work:', 'if units + 1 < handle.work:'),
+    ('units short are 4', 'if units < handle.work:\n        return 7,', 'if units < handle.work:\n        return 4,'),
+    ('units short are taken', 'if units < handle.work:\n        return 7, units,', 'if units < handle.work:\n        return 7, 0,'),
+    ('the picture before the charge', 'if units < handle.work:\n        return 7, units, output, scratch',
+     'if units < handle.work:\n        return 7, units, shown(f, stored) + output[handle.output:], scratch'),
+    ('output is zeroed before the charge', 'if units < handle.work:\n        return 7, units, output, scratch',
+     'if units < handle.work:\n        return 7, units, [0] * handle.output + output[handle.output:], scratch'),
+    ('scratch is zeroed before the charge', 'if units < handle.work:\n        return 7, units, output, scratch',
+     'if units < handle.work:\n        return 7, units, output, [0] * handle.scratch + scratch[handle.scratch:]'),
+    ('decode is free', 'return 0, units - handle.work,', 'return 0, units,'),
+    ('decode takes all units', 'return 0, units - handle.work,', 'return 0, 0,'),
+    ('decode takes one more', 'return 0, units - handle.work,', 'return 0, max(0, units - handle.work - 1),'),
+    ('bytes behind the picture are zeroed', 'whole + output[len(whole):]', 'whole + [0] * (len(output) - len(whole))'),
+    ('output stays', 'whole + output[len(whole):]', 'output'),
+    ('scratch stays', '[0] * handle.scratch + scratch[handle.scratch:]\n', 'scratch\n'),
+    ('scratch is zeroed whole', '[0] * handle.scratch + scratch[handle.scratch:]\n', '[0] * len(scratch)\n'),
+    ('scratch is zeroed but for a byte', '[0] * handle.scratch + scratch[handle.scratch:]\n',
+     '[0] * (handle.scratch - 1) + scratch[handle.scratch - 1:]\n'),
+    ('scratch keeps the last planes', '[0] * handle.scratch + scratch[handle.scratch:]\n',
+     '(expanded(stored[-1]) + [0] * handle.scratch)[:handle.scratch] + scratch[handle.scratch:]\n'),
+    ('only the planes are zeroed', '[0] * handle.scratch + scratch[handle.scratch:]\n',
+     '[0] * (handle.scratch // 10 * 4) + scratch[handle.scratch // 10 * 4:]\n'),
+    # the work limit
+    ('the bound without the page itself', 'bound = (page + 1) *', 'bound = max(1, page) *'),
+    ('the bound without the count of entries', '* (limits.tags + 1) +', '* limits.tags +'),
+    ('the bound without 128', '+ 128 + limits.segments', '+ limits.segments'),
+    ('the bound with max_output once', '+ 2 * limits.output + 1)', '+ limits.output + 1)'),
+    ('the bound with 20 max_output', '+ 2 * limits.output + 1)', '+ 20 * limits.output + 1)'),
+    ('the bound without one for each segment', '+ 2 * limits.output + 1)', '+ 2 * limits.output)'),
+    ('the bound with one segment', 'limits.segments * (limits.input', '(limits.input'),
+    ('the bound without max_input', '(limits.input + 2 *', '(2 *'),
+    ('the bound with one directory', '(page + 1) * (limits.tags + 1)', '(limits.tags + 1)'),
+    ('the bound by max_directories', '(page + 1) * (limits.tags + 1)', 'limits.directories * (limits.tags + 1)'),
+    ('the bound at most 2^64', "return 'over' if bound > TOP", "return 'over' if bound > TOP + 1"),
+    ('the bound below 2^64-1', "return 'over' if bound > TOP", "return 'over' if bound >= TOP"),
+    ('the bound wraps', "return 'over' if bound > TOP", "bound %= TOP + 1\n    return 'over' if bound > TOP"),
+    ('a segment alone may be over', "return 'over' if bound > TOP",
+     "return 'over' if limits.input + 2 * limits.output + 1 > TOP or bound > TOP"),
+    ('twice max_output may be over', "return 'over' if bound > TOP", "return 'over' if 2 * limits.output > TOP or bound > TOP"),
+    ('twice max_output wraps', '+ 2 * limits.output + 1)', '+ 2 * limits.output % 2 ** 64 + 1)'),
+    ('a segment wraps', '(limits.input + 2 * limits.output + 1)', '((limits.input + 2 * limits.output + 1) % 2 ** 64)'),
+    ('the segments wrap', 'limits.segments * (limits.input + 2 * limits.output + 1)',
+     'limits.segments * (limits.input + 2 * limits.output + 1) % 2 ** 64'),
+    ('the directories wrap', '(page + 1) * (limits.tags + 1)', '(page + 1) * (limits.tags + 1) % 2 ** 64'),
+    ('the next page wraps', '(page + 1) * (limits.tags + 1)', '((page + 1) % 2 ** 64) * (limits.tags + 1)'),
+    ('one more tag wraps', '(page + 1) * (limits.tags + 1)', '(page + 1) * ((limits.tags + 1) % 2 ** 64)'),
+    # what is written
+    ('a refusal gives the units back', "'%-16s refused %d, left %d' % (r.tag, why.args[0], reading.left)",
+     "'%-16s refused %d, left %d' % (r.tag, why.args[0], r.units)"),
+    ('decode goes by the first limits', 'decoded(r.other or r.file, limits, handle', 'decoded(r.other or r.file, r.limits, handle'),
+) + tuple(('the %s of a handle is not looked at' % field.replace('_', ' '), 'if handle != own:',
+           'if handle._replace(%s=own.%s) != own:' % (field, field)) for field in Handle._fields if field != 'page')
