@@ -1,0 +1,115 @@
+// The grey picture as a file (PGM): a header in text, and a byte for each pixel.
+use crate::complain;
+use crate::say;
+use patchy::Sizes;
+use summary::grey;
+ghost use mathlib.Core.Path.{_≡_};
+ghost use Prim.Native.Nat.{_+_, _-_, _≤_};
+ghost use lib.ListN.{length, take};
+ghost use Rattle.io.specs.Counts.{Counts};
+ghost use Rattle.lists.specs.Lists.{tabulate};
+ghost use Rattle.summary.specs.Grey.{greyAt, pixelsIn};
+ghost use Rattle.strips.specs.Pgm.{decimalOf, headerOf, pgmOf, Placed, Written};
+
+fn copy(from: &[u8], to: &mut [u8])
+    requires { ⌜ length (now to) ≡ length (now from) ⌝ }
+    ensures { λ _. ⌜ now (to .exit) ≡ now (from .entry) ⌝ }
+{
+    let mut i: usize = 0;
+    while i < to.len() {
+        to[i] = from[i];
+        i += 1;
+    }
+}
+
+// A text into the buffer at a place; the place after it.
+fn append(text: &[u8], out: &mut [u8], at: usize) -> usize
+    requires { ⌜ at + length (now text) ≤ length (now out) ⌝ }
+    ensures { λ r. ⌜ Placed (now (text .entry)) at (now (out .entry)) r (now (out .exit)) ⌝ }
+{
+    let end = at + text.len();
+    copy(text, &mut out[at..end]);
+    end
+}
+
+// A number into the buffer at a place, in at most twenty digits; the place after it.
+fn append_number(n: usize, out: &mut [u8], at: usize) -> usize
+    requires { ⌜ at + 20 ≤ length (now out) ⌝ }
+    ensures { λ r. ⌜ Placed (decimalOf n) at (now (out .entry)) r (now (out .exit)) × (r ≤ at + 20) ⌝ }
+{
+    let mut digits = [0; 20];
+    let k = io::decimal(n as u64, &mut digits);
+    append(&digits[..k], out, at)
+}
+
+// What stands before the pixels; the place after it.
+fn put_header(width: usize, height: usize, out: &mut [u8]) -> usize
+    requires { ⌜ 49 ≤ length (now out) ⌝ }
+    ensures { λ r. ⌜ Written (headerOf width height) (now (out .entry)) r (now (out .exit)) ⌝ }
+{
+    let kind = append(b"P5\n", out, 0);
+    let across = append_number(width, out, kind);
+    let between = append(b" ", out, across);
+    let down = append_number(height, out, between);
+    append(b"\n255\n", out, down)
+}
+
+// The grey values of all pixels into the buffer at a place, as far as there is room; the place after them.
+fn put_pixels(picture: &[u8], width: usize, height: usize, start: usize, out: &mut [u8]) -> usize
+    requires { ⌜ start ≤ length (now out) ⌝ }
+    ensures { λ r. ⌜ Placed (tabulate (pixelsIn width height (length (now (picture .entry))) (length (now (out .entry)) - start)) (greyAt (now (picture .entry)))) start (now (out .entry)) r (now (out .exit)) ⌝ }
+{
+    let most = records::least(picture.len() / 6, out.len() - start);
+    let end = start + grey::pixels_of(width, height, most);
+    grey::put_grey(picture, &mut out[start..end]);
+    end
+}
+
+// The file's bytes at the start of the buffer, and how many there are.
+fn put_file(picture: &[u8], width: usize, height: usize, out: &mut [u8]) -> usize
+    requires { ⌜ 49 ≤ length (now out) ⌝ }
+    ensures { λ r. ⌜ Counts r (now (out .exit)) ⌝ }
+    ensures { λ r. ⌜ take r (now (out .exit)) ≡ pgmOf width height (now (picture .entry)) (length (now (out .entry))) ⌝ }
+{
+    let start = put_header(width, height, out);
+    put_pixels(picture, width, height, start, out)
+}
+
+fn write_file(name: &[u8], file: &[u8]) -> bool {
+    let fd = os::open_overwrite(name);
+    if fd < 0 {
+        complain::failed(b"strips: cannot write '", name);
+        return false;
+    }
+    if !io::write_all(fd, file) {
+        complain::failed(b"strips: cannot write the whole of '", name);
+        libc::close(fd);
+        return false;
+    }
+    if libc::close(fd) < 0 {
+        complain::failed(b"strips: cannot write the whole of '", name);
+        return false;
+    }
+    true
+}
+
+fn tell(name: &[u8], sizes: Sizes, file: &[u8]) {
+    say::text(b"  written   ");
+    say::text(name);
+    say::number(b": PGM, ", sizes.width);
+    say::number(b" x ", sizes.height);
+    say::number(b", ", file.len());
+    say::text(b" bytes, CRC-32 ");
+    say::sum(file);
+    say::text(b"\n");
+}
+
+// Makes the file in a buffer, whose bytes are lost, and writes it.
+pub fn write(name: &[u8], picture: &[u8], sizes: Sizes, room: &mut [u8])
+    requires { ⌜ 49 ≤ length (now room) ⌝ }
+{
+    let n = put_file(picture, sizes.width, sizes.height, room);
+    if write_file(name, &room[..n]) {
+        tell(name, sizes, &room[..n]);
+    }
+}

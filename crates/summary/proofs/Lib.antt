@@ -1,0 +1,4 @@
+pub mod Filled
+pub mod Greys
+pub mod Lines
+pub mod Tallies

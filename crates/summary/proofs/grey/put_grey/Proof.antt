@@ -1,0 +1,85 @@
+-- Each turn puts one grey value after those so far.
+use Prim.Native.Nat.{_-_}
+use lib.ListN.{length}
+use Rattle.summary.proofs.Filled.{Filled}
+use Rattle.summary.specs.Grey.{greyAt}
+use Rattle.summary.proofs.Greys.{greys}
+use Rattle.summary.proofs.grey.put_grey.Statement.{statement}
+use Rattle.summary.proofs.grey.put_grey.Tie as tie
+
+abbrev Inv-loop : tie.InvT-loop
+Inv-loop picture grey₀ k₀ grey k = Filled (greyAt picture) grey₀ grey k
+
+abbrev μ-loop : tie.MeasureT-loop
+μ-loop picture grey₀ k₀ grey k = length grey₀ - k
+
+loop-holds : tie.Need-loop-holds Inv-loop μ-loop
+loop-holds c = search greys
+
+mul-low : tie.Need-mul-low Inv-loop μ-loop
+mul-low c = search greys
+
+add-high : tie.Need-add-high Inv-loop μ-loop
+add-high c = search greys
+
+shared-slice-read-wide : tie.Need-shared-slice-read-wide Inv-loop μ-loop
+shared-slice-read-wide c = search greys
+
+wide-requires : tie.Need-wide-requires Inv-loop μ-loop
+wide-requires c κs = search greys
+
+shared-slice-read-wide-2 : tie.Need-shared-slice-read-wide-2 Inv-loop μ-loop
+shared-slice-read-wide-2 c = search greys
+
+wide-requires-2 : tie.Need-wide-requires-2 Inv-loop μ-loop
+wide-requires-2 c κs = search greys
+
+mul-grey-of : tie.Need-mul-grey-of Inv-loop μ-loop
+mul-grey-of c = search greys
+
+add-grey-of : tie.Need-add-grey-of Inv-loop μ-loop
+add-grey-of c = search greys
+
+grey-of-requires : tie.Need-grey-of-requires Inv-loop μ-loop
+grey-of-requires c κs = search greys
+
+slice-write-grey : tie.Need-slice-write-grey Inv-loop μ-loop
+slice-write-grey c = search greys
+
+add-k : tie.Need-add-k Inv-loop μ-loop
+add-k c = search greys
+
+loop-less : tie.Need-loop-less Inv-loop μ-loop
+loop-less c = search greys
+
+loop-again : tie.Need-loop-again Inv-loop μ-loop
+loop-again c = search greys
+
+same-length : tie.Need-same-length Inv-loop μ-loop
+same-length c = search greys
+
+returns : tie.Need-returns Inv-loop μ-loop
+returns c = search greys
+
+pub put-grey-spec : {M : Type 1} → statement M
+put-grey-spec =
+    tie.close
+    (tie.spec
+    Inv-loop
+    μ-loop
+    loop-holds
+    mul-low
+    add-high
+    shared-slice-read-wide
+    wide-requires
+    shared-slice-read-wide-2
+    wide-requires-2
+    mul-grey-of
+    add-grey-of
+    grey-of-requires
+    slice-write-grey
+    add-k
+    loop-less
+    loop-again
+    same-length
+    returns)

@@ -1,0 +1,252 @@
+#!/bin/sh
+# Runs bin/strips on whole, patchy and broken pictures and compares what it prints, errors included, and what it writes. The last line
+# is 'N passed, M failed'; the exit status is 1 where something failed.
+root=$(cd "$(dirname "$0")/.." && pwd -P)
+strips=$root/bin/strips
+room=$(cd "$(mktemp -d)" && pwd -P)
+trap 'rm -rf "$room"' EXIT
+cd "$room" || exit 2
+passed=0
+failed=0
+
+note() { # whether it passed, what was tried
+    if [ "$1" -eq 0 ]; then
+        passed=$((passed + 1))
+    else
+        failed=$((failed + 1))
+        echo "FAILED: $2"
+    fi
+}
+
+prints() { # what is tried, the arguments; standard input has what must be printed
+    what=$1
+    shift
+    cat >want
+    "$strips" "$@" >got 2>&1
+    cmp -s want got
+    same=$?
+    note "$same" "$what"
+    [ "$same" -eq 0 ] || diff want got
+}
+
+# ---- pictures of the test's own, little-endian
+byte() { printf "\\$(printf %03o "$1")"; }
+short() { byte $(($1 % 256)) && byte $(($1 / 256)); }
+long() { short $(($1 % 65536)) && short $(($1 / 65536)); }
+entry() { short "$1" && short "$2" && long "$3" && long "$4"; }
+bytes() { head -c "$1" /dev/zero | tr '\0' "\\$(printf %03o "$2")"; }
+
+# One pixel wide, 130 strips of one row: the directory at 8, then two arrays of three, the offsets at 146, the counts at 406, and
+# from 666 on the packets of two rows, of which the second has a negative L.
+tall() {
+    printf 'II*\000' && long 8
+    short 10
+    entry 256 3 1 1
+    entry 257 3 1 130
+    entry 258 3 3 134
+    entry 259 3 1 34676
+    entry 262 3 1 32845
+    entry 273 3 130 146
+    entry 277 3 1 3
+    entry 278 3 1 1
+    entry 279 3 130 406
+    entry 339 3 3 140
+    long 0
+    short 16 && short 16 && short 16
+    short 2 && short 2 && short 2
+    k=0
+    while [ "$k" -lt 130 ]; do
+        case $k in
+        75) short 9999 ;;
+        76) short 0 ;;
+        77) short 674 ;;
+        *) short 666 ;;
+        esac
+        k=$((k + 1))
+    done
+    k=0
+    while [ "$k" -lt 130 ]; do
+        short 8
+        k=$((k + 1))
+    done
+    printf '\001\100\001\200\001\120\001\140'
+    printf '\001\300\001\200\001\120\001\140'
+}
+
+cp "$root/crates/strips/data/camera.tif" "$root/crates/strips/data/one-block-lost.map" .
+tall >tall.tif
+bytes 85 0 >all-lost.map
+bytes 84 1 >short.map
+bytes 5000 1 >long.map
+: >empty
+bytes 2097152 0 >large.tif
+bytes 2097153 0 >larger.tif
+printf 'GIF89a\000\000' >gif.tif
+printf 'II+\000\010\000\000\000' >big.tif
+{ printf 'II*\000' && long 8 && short 4097; } >tags.tif
+{ printf 'MM\000*' && long 0; } >none.tif
+
+# ---- arguments and files
+prints 'no argument' <<'END'
+usage: strips FILE [MAP [OUT]]
+  FILE  a LogLuv TIFF picture
+  MAP   its delivery map, a byte for each block of 512 bytes, 1 where the block came; without it the picture came whole
+  OUT   where to write L as a grey picture (PGM)
+END
+prints 'too many arguments' camera.tif one-block-lost.map grey.pgm more <<'END'
+strips: at most three names are taken, FILE, MAP and OUT, and here are 4
+END
+prints 'a name that is too long' camera.tif "$(bytes 5000 120)" <<'END'
+strips: argument 2 is longer than the name of a file can be
+END
+prints 'a picture that is not there' nothing.tif <<'END'
+strips: cannot read the picture 'nothing.tif': No such file or directory
+END
+prints 'a folder for a picture' . <<'END'
+strips: cannot read the picture '.': Is a directory
+END
+prints 'a picture of more than 2 MiB' larger.tif <<'END'
+strips: picture 'larger.tif' has more than 2097152 bytes, the most that is read here
+END
+prints 'a map that is not there' camera.tif nothing.map <<'END'
+strips: cannot read the map 'nothing.map': No such file or directory
+END
+prints 'a short map' camera.tif short.map grey.pgm <<'END'
+strips: map 'short.map' has 84 bytes, and must have 85, one for each block of the picture
+END
+prints 'a map that is longer than any' camera.tif long.map <<'END'
+strips: map 'long.map' has at least 4097 bytes, and must have 85, one for each block of the picture
+END
+prints 'an empty map' camera.tif empty <<'END'
+strips: map 'empty' has 0 bytes, and must have 85, one for each block of the picture
+END
+
+# ---- refusals
+prints 'an empty picture: 1' empty <<'END'
+empty
+  blocks    0, of which 0 did not come
+  refused   1, Truncated: the file ends before bytes that the header, a directory or a value needs
+  charged   0 units
+END
+prints 'no TIFF file: 2' gif.tif <<'END'
+gif.tif
+  blocks    1, of which 0 did not come
+  refused   2, Invalid: this is no TIFF file, or a directory or an entry is malformed
+  charged   0 units
+END
+prints 'no TIFF file, of exactly 2 MiB: 2' large.tif <<'END'
+large.tif
+  blocks    4096, of which 0 did not come
+  refused   2, Invalid: this is no TIFF file, or a directory or an entry is malformed
+  charged   0 units
+END
+prints 'a BigTIFF file: 3' big.tif <<'END'
+big.tif
+  blocks    1, of which 0 did not come
+  refused   3, Unsupported: the picture is not of the kind that is read here, LogLuv (32845) in SGILog packets (34676), three samples of 16 bits, no side above 65535
+  charged   0 units
+END
+prints 'more entries than are allowed: 4' tags.tif <<'END'
+tags.tif
+  blocks    1, of which 0 did not come
+  refused   4, Limit: the picture or a directory is larger than this program allows
+            here: at most 2097152 bytes for the picture, six a pixel, and for a segment, ten a pixel; 65536 segments, 4096 entries in a directory
+  charged   0 units
+END
+prints 'no directory: 5' none.tif <<'END'
+none.tif
+  blocks    1, of which 0 did not come
+  refused   5, PageNotFound: the file has no picture, as its first directory is at 0
+  charged   0 units
+END
+prints 'nothing came: 8, and nothing is written' camera.tif all-lost.map grey.pgm <<'END'
+camera.tif
+  blocks    85, of which 85 did not come
+  refused   8, NotArrived: the header, a directory or a value is in a block that did not come
+  charged   0 units
+  written   nothing to grey.pgm, as there is no picture
+END
+[ ! -e grey.pgm ]
+note $? 'after a refusal and after a wrong map there is no grey picture'
+
+# ---- pictures
+prints 'without a map' camera.tif <<'END'
+camera.tif
+  pixels    640 x 480
+  segments  60, each at most 640 x 8
+  blocks    85, of which 0 did not come
+  quality   .......... .......... .......... .......... .......... ..........
+       60   good (1, a dot)
+        0   did not come (2)
+        0   outside the file (3)
+        0   packets not accepted (4)
+  charged   6186992 units
+END
+prints 'one block lost' camera.tif one-block-lost.map grey.pgm <"$root/crates/strips/stdout"
+head -c 15 grey.pgm >header
+printf 'P5\n640 480\n255\n' | cmp -s - header
+note $? "the grey picture's header"
+tail -c +158736 grey.pgm | head -c 5120 >lost-strip
+bytes 5120 0 | cmp -s - lost-strip
+note $? 'the lost strip is black'
+bytes 85 1 >all-came.map
+"$strips" camera.tif all-came.map whole.pgm >got 2>&1
+others() { head -c 158735 "$1" && tail -c +163856 "$1"; }
+others whole.pgm >want
+others grey.pgm | cmp -s - want
+note $? 'the other strips are as they are in the whole picture'
+cmp -s grey.pgm whole.pgm
+[ $? -eq 1 ]
+note $? 'the lost one is not black there'
+bytes 2 1 >both-came.map
+prints 'every quality, in three lines' tall.tif both-came.map tall.pgm <<'END'
+tall.tif
+  pixels    1 x 130
+  segments  130, each at most 1 x 1
+  blocks    2, of which 0 did not come
+  quality   .......... .......... .......... .......... .......... ..........
+       60   .......... .....34... .......... .......... .......... ..........
+      120   ..........
+      128   good (1, a dot)
+        0   did not come (2)
+        1   outside the file (3)
+        1   packets not accepted (4)
+  charged   3881 units
+  written   tall.pgm: PGM, 1 x 130, 143 bytes, CRC-32 ae93aade
+END
+{ printf 'P5\n1 130\n255\n' && bytes 75 129 && bytes 3 0 && bytes 52 129; } | cmp -s - tall.pgm
+note $? 'each grey value, a negative one among them'
+{ bytes 1 1 && bytes 1 2; } >second-lost.map
+prints 'a map byte of 2 is not 1' tall.tif second-lost.map <<'END'
+tall.tif
+  pixels    1 x 130
+  segments  130, each at most 1 x 1
+  blocks    2, of which 1 did not come
+  quality   2222222222 2222222222 2222222222 2222222222 2222222222 2222222222
+       60   2222222222 2222222222 2222222222 2222222222 2222222222 2222222222
+      120   2222222222
+        0   good (1, a dot)
+      130   did not come (2)
+        0   outside the file (3)
+        0   packets not accepted (4)
+  charged   269 units
+END
+
+# ---- where nothing can be written
+sed '$d' "$root/crates/strips/stdout" >report
+{ cat report && echo "strips: cannot write 'nowhere/grey.pgm': No such file or directory"; } >unwritten
+prints 'a grey picture in a folder that is not there' camera.tif one-block-lost.map nowhere/grey.pgm <unwritten
+{ cat report && echo "strips: cannot write '.': Is a directory"; } >unwritten
+prints 'a folder for a grey picture' camera.tif one-block-lost.map . <unwritten
+{ cat report && echo "strips: cannot write the whole of '/dev/full': No space left on device"; } >unwritten
+prints 'a grey picture on a full device' camera.tif one-block-lost.map /dev/full <unwritten
+
+# ---- the launcher
+mkdir bin
+cp "$strips" bin/strips
+strips=$room/bin/strips
+echo "strips: the program is not built yet; 'make strips' in $room proves and builds it" >unbuilt
+prints 'a program that is not built' camera.tif <unbuilt
+
+echo "$passed passed, $failed failed"
+[ "$failed" -eq 0 ]
