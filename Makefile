@@ -1,10 +1,31 @@
 # What people run here. `make` alone says what there is.
-.PHONY: help test vectors format
+.PHONY: help demo strips strips-test test vectors format lib readme compare faults bench worst rust
 
 help:
-	@echo 'make test     prove every crate from nothing, try every must-fail edit, run every program'
-	@echo 'make vectors  compute the expected answers of the vectors anew, and try mistakes against them'
-	@echo 'make format   lay out every source and proof file'
+	@echo "make demo         the camera's picture without one block: what came of each strip; the grey picture goes to target/demo.pgm"
+	@echo 'make strips       prove and build the program bin/strips, which reports what came of a picture'
+	@echo 'make strips-test  run it on whole, patchy and broken pictures, and compare what it prints'
+	@echo 'make test         prove every crate from nothing, try every must-fail edit, run every program: the gate'
+	@echo 'make vectors      compute the expected answers of the vectors anew, and try mistakes against them (needs python3)'
+	@echo 'make lib          prove the library and build it for C and Rust'
+	@echo "make readme       compile and run README's example in C (needs gcc)"
+	@echo 'make rust         build, test and run the Rust binding (needs cargo)'
+	@echo 'make compare      compare with libtiff on COUNT=5000 random pictures from SEED=1 (a minute; needs gcc, libtiff-dev)'
+	@echo 'make faults       make mistakes between compare and the library: it must notice each'
+	@echo 'make bench        time the library beside libtiff (needs gcc, libtiff-dev)'
+	@echo 'make worst        instructions for each unit charged, and the deepest stack (needs gcc, libtiff-dev, valgrind)'
+	@echo 'make format       lay out every source and proof file'
+
+strips:
+	rt check strips
+
+# Block 44 of 85 is lost, which has bytes of strip 31 alone.
+demo: strips
+	@{ head -c 44 /dev/zero | tr '\0' '\1'; printf '\0'; head -c 40 /dev/zero | tr '\0' '\1'; } >target/demo.map
+	bin/strips $(CAMERA) target/demo.map target/demo.pgm
+
+strips-test: strips
+	tests/strips.sh
 
 test:
 	@.ci/run
@@ -16,3 +37,56 @@ vectors:
 
 format:
 	rt fmt
+
+lib:
+	@archive=$$(tools/archive) && echo "for programs of this machine: $$archive"
+	@echo 'for programs of x86-64 Linux: target/staticlib/libchelmesut.a'
+	@echo 'the header: include/chelmesut.h'
+
+# What follows are programs in C and Rust that are linked with the library for this machine.
+CC = gcc
+CFLAGS = -std=c11 -O2 -Wall -Wextra
+COUNT = 5000
+SEED = 1
+CAMERA = crates/strips/data/camera.tif
+
+readme:
+	@tools/need gcc
+	@archive=$$(tools/archive) && tests/c/readme.sh README.md "$$archive" $(CAMERA)
+
+# $(call build,PROGRAM,SOURCES)
+build = archive=$$(tools/archive) && $(CC) $(CFLAGS) -o target/$(1) $(addprefix tests/c/,$(2)) tests/c/pictures.c "$$archive" -ltiff $(LDFLAGS)
+
+compare:
+	@tools/need gcc libtiff-dev
+	@$(call build,compare,compare.c)
+	target/compare $(COUNT) $(SEED)
+
+# Compare's calls go by way of tests/c/faults.c.
+faults: LDFLAGS = -Wl,--wrap=chelmesut_inspect,--wrap=chelmesut_decode,--wrap=chelmesut_read_patchy
+faults:
+	@tools/need gcc libtiff-dev
+	@$(call build,faults,compare.c faults.c)
+	@tests/c/faults.sh target/faults
+
+bench:
+	@tools/need gcc libtiff-dev
+	@$(call build,bench,bench.c)
+	@target/bench $(CAMERA) "$$(uname -m), $$(lscpu | sed -n 's/^Model name: *//p' | head -n 1)" "$$(cat KIT)"
+
+# All symbols are bound before it starts, so that the loader's work is on no stack that is measured.
+worst: LDFLAGS = -Wl,-z,now
+worst:
+	@tools/need gcc libtiff-dev valgrind
+	@$(call build,worst,worst.c)
+	@valgrind -q --tool=callgrind --collect-atstart=no --callgrind-out-file=target/worst.dump target/worst count target/worst.dump target/worst.counts
+	@target/worst table target/worst.counts
+
+# Nothing is fetched: the binding has no dependency.
+rust: export CARGO_TARGET_DIR = $(CURDIR)/target/rust
+rust:
+	@command -v cargo >/dev/null || { echo 'make rust needs cargo; it fetches nothing'; exit 2; }
+	@tools/archive
+	cd bindings/rust && cargo build --offline --locked
+	cd bindings/rust && cargo test --offline --locked
+	cd bindings/rust && cargo run --offline --locked --example strips -- ../../$(CAMERA)

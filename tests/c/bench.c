@@ -1,0 +1,292 @@
+/* Times the reader beside libtiff on the camera's size of picture, and prints a table in Markdown.
+ *
+ *     bench CAMERA MACHINE KIT [REPETITIONS]
+ *
+ * CAMERA is the camera's picture (640 x 480, 60 strips of 8 rows); MACHINE and KIT are names for the table's head. All is
+ * done in one process, each repetition (201) measures every way of reading once, in turn, and medians are compared. All ways
+ * read from memory into memory that was touched before, and no buffer is cleared between the repetitions. Pixels are compared
+ * before anything is timed. The exit status is 1 if strict or patchy reading of a whole picture has less than 0.6 of libtiff's
+ * speed. */
+#define _POSIX_C_SOURCE 200809L
+#include "../../include/chelmesut.h"
+#include "pictures.h"
+#include <stdio.h>
+#include <stdlib.h>
+#include <string.h>
+#include <time.h>
+
+enum { WIDTH = 640, HEIGHT = 480, STRIP_ROWS = 8, STRIPS = 60 };
+enum { OUTPUT = WIDTH * HEIGHT * PIXEL, SCRATCH = 10 * WIDTH * STRIP_ROWS };
+enum { MOST_REPETITIONS = 10001 };
+
+static const double wanted = 0.6;
+
+static const struct limits limits = {2097152, 2097152, 65535, 4, 256, STRIPS};
+
+/* The ways of reading that are timed. */
+enum way { LIBTIFF, STRICT, PATCHY_WHOLE, PATCHY_LOST, COPY, WAYS };
+
+struct content {
+    const char *name;
+    struct memory file;
+    uint8_t *whole, *lost; /* delivery maps: every block came, and some did not */
+    uint32_t good;         /* strips of which every block came, under the second map */
+    double median[WAYS];
+};
+
+static uint8_t expected[OUTPUT], output[OUTPUT], scratch[SCRATCH], quality[STRIPS];
+
+/* ---- the four contents */
+
+static struct shape camera_shape(void)
+{
+    return (struct shape){.width = WIDTH, .height = HEIGHT, .block_width = WIDTH, .block_height = STRIP_ROWS};
+}
+
+static void read_by_libtiff(struct memory *file, uint8_t *pixels)
+{
+    struct shape shape = camera_shape();
+    TIFF *tiff = open_to_read(file);
+    read_pixels(tiff, &shape, pixels);
+    TIFFClose(tiff);
+}
+
+/* A sum of two dice, so that small differences are more frequent. */
+static int noise(struct dice *dice, uint32_t width)
+{
+    return (int)(below(dice, width) + below(dice, width)) - (int)(width - 1);
+}
+
+enum kind { RING, RING_WITH_NOISE, NOISE, FLAT, KINDS };
+
+static const char *const kind_name[KINDS] = {"ring", "ring, sensor noise", "noise", "flat"};
+
+/* What the ring's sample becomes. The sensor's noise is of some steps of L (256 of them are a factor of two in light) and of less
+ * than one step of u and v as they are stored, which is 80 here. */
+static int16_t sample_of(struct dice *dice, enum kind kind, int channel, int16_t ring)
+{
+    switch (kind) {
+    case RING_WITH_NOISE: return (int16_t)(ring + noise(dice, channel == 0 ? 16 : 60));
+    case NOISE: return (int16_t)(channel == 0 ? (int)(roll(dice) >> 48) - 32768 : (int)below(dice, 20480));
+    case FLAT: return channel == 0 ? 5000 : 15000;
+    default: return ring;
+    }
+}
+
+/* The same size and the same strips as the camera's picture, with samples made of its own. */
+static void make_file(struct content *content, enum kind kind, const int16_t *ring)
+{
+    struct dice dice = {kind};
+    struct shape shape = camera_shape();
+    int16_t *samples = lend(OUTPUT);
+    TIFF *tiff = open_to_write(&content->file, false);
+    for (size_t i = 0; i < OUTPUT / sizeof *samples; i++)
+        samples[i] = sample_of(&dice, kind, (int)(i % 3), ring[i]);
+    write_page(tiff, &shape, samples);
+    TIFFClose(tiff);
+    free(samples);
+}
+
+/* Whether a block lies wholly within the strips' stored bytes: the others hold header, directory and arrays. */
+static bool only_strips(struct memory *file, size_t block)
+{
+    TIFF *tiff = open_to_read(file);
+    uint64_t first = TIFFGetStrileOffset(tiff, 0);
+    uint64_t end = TIFFGetStrileOffset(tiff, STRIPS - 1) + TIFFGetStrileByteCount(tiff, STRIPS - 1);
+    TIFFClose(tiff);
+    return block * BLOCK >= first && (block + 1) * BLOCK <= end;
+}
+
+/* One block in twenty is lost, the same ones in every run. */
+static void make_maps(struct content *content)
+{
+    struct dice dice = {20};
+    size_t blocks = blocks_of(&content->file), to_lose = (blocks + 10) / 20;
+    content->whole = lend(blocks);
+    content->lost = lend(blocks);
+    memset(content->whole, 1, blocks);
+    memset(content->lost, 1, blocks);
+    while (to_lose > 0) {
+        size_t block = below(&dice, (uint32_t)blocks);
+        if (content->lost[block] == 1 && only_strips(&content->file, block)) {
+            content->lost[block] = 0;
+            to_lose--;
+        }
+    }
+}
+
+/* ---- the ways of reading */
+
+static void must(const char *what, uint64_t number)
+{
+    if (number != 0)
+        give_up("bench: %s is refused with %llu", what, (unsigned long long)number);
+}
+
+static void read_strictly(const struct memory *file)
+{
+    uint64_t handle[CHELMESUT_HANDLE_WORDS], budget = UINT64_MAX;
+    must("inspection", chelmesut_inspect(file->bytes, file->length, 0, WORDS_OF(limits), &budget, handle));
+    must("decode", chelmesut_decode(file->bytes, file->length, 0, WORDS_OF(limits), handle, &budget, output, sizeof output,
+                                    scratch, sizeof scratch));
+}
+
+static void read_patchily(const struct memory *file, const uint8_t *map)
+{
+    uint64_t answer[CHELMESUT_ANSWER_WORDS], budget = UINT64_MAX;
+    must("patchy reading",
+         chelmesut_read_patchy(file->bytes, file->length, map, blocks_of(file), 0, WORDS_OF(limits), &budget, output,
+                               sizeof output, scratch, sizeof scratch, quality, sizeof quality, answer));
+}
+
+static void read_by(enum way way, struct content *content)
+{
+    switch (way) {
+    case LIBTIFF: read_by_libtiff(&content->file, output); break;
+    case STRICT: read_strictly(&content->file); break;
+    case PATCHY_WHOLE: read_patchily(&content->file, content->whole); break;
+    case PATCHY_LOST: read_patchily(&content->file, content->lost); break;
+    default: memcpy(output, expected, sizeof output);
+    }
+}
+
+/* Every strip shows libtiff's pixels, or zero where it did not come. */
+static void compare_pixels(struct content *content, enum way way)
+{
+    enum { STRIP = OUTPUT / STRIPS };
+    static const uint8_t blank[STRIP];
+    memset(output, 0xa5, sizeof output);
+    memset(quality, 1, sizeof quality);
+    read_by(way, content);
+    for (int strip = 0; strip < STRIPS; strip++) {
+        if (memcmp(output + strip * STRIP, quality[strip] == 1 ? expected + strip * STRIP : blank, STRIP) != 0)
+            give_up("bench: the pixels of strip %d of '%s' are not libtiff's", strip, content->name);
+        if (way == PATCHY_LOST)
+            content->good += quality[strip] == 1;
+        else if (quality[strip] != 1)
+            give_up("bench: strip %d of '%s' came, and is marked %d", strip, content->name, quality[strip]);
+    }
+}
+
+/* ---- timing */
+
+/* Processor time of this thread: what other programs of the machine take is not counted. */
+static double milliseconds(void)
+{
+    struct timespec time;
+    clock_gettime(CLOCK_THREAD_CPUTIME_ID, &time);
+    return (double)time.tv_sec * 1e3 + (double)time.tv_nsec * 1e-6;
+}
+
+static int by_size(const void *a, const void *b)
+{
+    double x = *(const double *)a, y = *(const double *)b;
+    return x < y ? -1 : x > y;
+}
+
+static void time_content(struct content *content, size_t repetitions)
+{
+    static double times[WAYS][MOST_REPETITIONS];
+    read_by_libtiff(&content->file, expected);
+    for (enum way way = LIBTIFF; way < WAYS; way++)
+        compare_pixels(content, way);
+    for (size_t i = 0; i < repetitions; i++)
+        for (enum way way = LIBTIFF; way < WAYS; way++) {
+            double start = milliseconds();
+            read_by(way, content);
+            times[way][i] = milliseconds() - start;
+        }
+    for (enum way way = LIBTIFF; way < WAYS; way++) {
+        qsort(times[way], repetitions, sizeof(double), by_size);
+        content->median[way] = times[way][repetitions / 2];
+    }
+}
+
+/* ---- the tables */
+
+static double ratio(const struct content *content, enum way way)
+{
+    return content->median[LIBTIFF] / content->median[way];
+}
+
+/* Megabytes of output in a second. */
+static double speed(const struct content *content, enum way way)
+{
+    return OUTPUT / 1e3 / content->median[way];
+}
+
+/* On x86-64 the kit's archive is linked, elsewhere what tools/archive makes of the same bitcode. */
+#ifdef __x86_64__
+static const char origin[] = "target/staticlib/libchelmesut.a, as rt builds it";
+#else
+static const char origin[] = "the bitcode of which rt builds the archive for x86-64, compiled for this machine by the same "
+                             "clang (tools/archive)";
+#endif
+
+static void print_head(const char *machine, const char *kit, size_t repetitions)
+{
+    const char *version = TIFFGetVersion();
+    printf("- machine: %s\n- the reader: %s; kit: %s\n", machine, origin, kit);
+    printf("- beside it: %.*s, called by a program of gcc %s\n", (int)strcspn(version, "\n"), version, __VERSION__);
+    printf("- medians of %zu repetitions in one process, in which the ways of reading take turns; processor time of the one "
+           "thread; buffers are warm and not cleared between repetitions\n\n",
+           repetitions);
+}
+
+static void print_times(const struct content *contents)
+{
+    printf("| 640 x 480, times in ms | file, bytes | libtiff | inspect + decode | patchy, all came | patchy, 5%% lost "
+           "| strips then good | memcpy |\n");
+    printf("|---|---:|---:|---:|---:|---:|---:|---:|\n");
+    for (const struct content *content = contents; content < contents + KINDS; content++)
+        printf("| %s | %zu | %.3f | %.3f | %.3f | %.3f | %u of %d | %.3f |\n", content->name, content->file.length,
+               content->median[LIBTIFF], content->median[STRICT], content->median[PATCHY_WHOLE],
+               content->median[PATCHY_LOST], content->good, STRIPS, content->median[COPY]);
+}
+
+static void print_speeds(const struct content *contents)
+{
+    printf("\n| libtiff's time / ours; MB/s of pixels | inspect + decode | patchy, all came | libtiff, MB/s "
+           "| inspect + decode, MB/s | patchy, MB/s |\n");
+    printf("|---|---:|---:|---:|---:|---:|\n");
+    for (const struct content *content = contents; content < contents + KINDS; content++)
+        printf("| %s | %.2f | %.2f | %.0f | %.0f | %.0f |\n", content->name, ratio(content, STRICT),
+               ratio(content, PATCHY_WHOLE), speed(content, LIBTIFF), speed(content, STRICT), speed(content, PATCHY_WHOLE));
+}
+
+/* The least ratio of the two readings of whole pictures. */
+static double least_ratio(const struct content *contents)
+{
+    double least = ratio(contents, STRICT);
+    for (const struct content *content = contents; content < contents + KINDS; content++)
+        for (enum way way = STRICT; way <= PATCHY_WHOLE; way++)
+            if (least > ratio(content, way))
+                least = ratio(content, way);
+    return least;
+}
+
+int main(int arguments, char **argument)
+{
+    static struct content contents[KINDS];
+    static int16_t ring[OUTPUT / sizeof(int16_t)];
+    size_t repetitions = arguments > 4 ? strtoull(argument[4], NULL, 10) : 201;
+    double least;
+    if (arguments < 4 || repetitions < 1 || repetitions > MOST_REPETITIONS)
+        give_up("usage: bench CAMERA MACHINE KIT [REPETITIONS, 1 to %d]", MOST_REPETITIONS);
+    read_file(&contents[RING].file, argument[1]);
+    read_by_libtiff(&contents[RING].file, (uint8_t *)ring);
+    for (enum kind kind = RING; kind < KINDS; kind++) {
+        contents[kind].name = kind_name[kind];
+        if (kind != RING)
+            make_file(&contents[kind], kind, ring);
+        make_maps(&contents[kind]);
+        time_content(&contents[kind], repetitions);
+    }
+    print_head(argument[2], argument[3], repetitions);
+    print_times(contents);
+    print_speeds(contents);
+    least = least_ratio(contents);
+    printf("\nThe least of the ratios is %.2f, %s %.1f of libtiff's speed that is asked for.\n", least,
+           least >= wanted ? "not below the" : "BELOW THE", wanted);
+    return least >= wanted ? 0 : 1;
+}

@@ -1,0 +1,191 @@
+/* Mistakes between compare and the reader, one at a time, each of which compare must notice. It is linked into compare with
+ *
+ *     -Wl,--wrap=chelmesut_inspect,--wrap=chelmesut_decode,--wrap=chelmesut_read_patchy
+ *
+ * so that compare's calls come here. The environment's FAULT is the number of the mistake; with a number after the last one the
+ * program ends with status 3. */
+#include "../../include/chelmesut.h"
+#include "pictures.h"
+#include <stdio.h>
+#include <stdlib.h>
+#include <string.h>
+
+#define LIMIT_WORDS max_input, max_output, max_dimension, max_directories, max_tags, max_segments
+
+uint64_t __real_chelmesut_inspect(const uint8_t *file, size_t file_len, uint64_t page, CHELMESUT_LIMITS, uint64_t *budget,
+                                  uint64_t handle[17]);
+uint64_t __real_chelmesut_decode(const uint8_t *file, size_t file_len, uint64_t page, CHELMESUT_LIMITS,
+                                 const uint64_t handle[17], uint64_t *budget, uint8_t *output, size_t output_len,
+                                 uint8_t *scratch, size_t scratch_len);
+uint64_t __real_chelmesut_read_patchy(const uint8_t *file, size_t file_len, const uint8_t *map, size_t map_len,
+                                      uint64_t page, CHELMESUT_LIMITS, uint64_t *budget, uint8_t *output, size_t output_len,
+                                      uint8_t *scratch, size_t scratch_len, uint8_t *quality, size_t quality_len,
+                                      uint64_t answer[5]);
+uint64_t __wrap_chelmesut_inspect(const uint8_t *file, size_t file_len, uint64_t page, CHELMESUT_LIMITS, uint64_t *budget,
+                                  uint64_t handle[17]);
+uint64_t __wrap_chelmesut_decode(const uint8_t *file, size_t file_len, uint64_t page, CHELMESUT_LIMITS,
+                                 const uint64_t handle[17], uint64_t *budget, uint8_t *output, size_t output_len,
+                                 uint8_t *scratch, size_t scratch_len);
+uint64_t __wrap_chelmesut_read_patchy(const uint8_t *file, size_t file_len, const uint8_t *map, size_t map_len,
+                                      uint64_t page, CHELMESUT_LIMITS, uint64_t *budget, uint8_t *output, size_t output_len,
+                                      uint8_t *scratch, size_t scratch_len, uint8_t *quality, size_t quality_len,
+                                      uint64_t answer[5]);
+
+enum fault {
+    NONE,
+    HANDLE_OF_PREVIOUS_PAGE,
+    HANDLE_WORK_TOO_SMALL,
+    HANDLE_WRITTEN_ON_REFUSAL,
+    INSPECT_CHARGES_WHAT_FAILS,
+    DECODE_BIT_OF_PIXEL,
+    DECODE_BYTE_AFTER_OUTPUT,
+    DECODE_BYTE_AFTER_SCRATCH,
+    DECODE_SCRATCH_NOT_ZERO,
+    DECODE_CHARGES_NOTHING,
+    DECODE_TAKES_FORGED_HANDLE,
+    DECODE_OUTPUT_BEFORE_BUDGET,
+    PATCHY_BIT_OF_PIXEL,
+    PATCHY_PREVIOUS_PIXELS,
+    PATCHY_LOST_MARKED_GOOD,
+    PATCHY_ALL_MARKED_LOST,
+    PATCHY_ODD_MARK_IS_ARRIVED,
+    PATCHY_LAST_LOST_BLOCK_PASSED_OVER,
+    PATCHY_CHARGE_OF_LOST_SEGMENT,
+    PATCHY_QUALITY_STAYS_BEHIND_LAST,
+    PATCHY_QUALITY_STAYS_ON_REFUSAL,
+    PATCHY_SCRATCH_NOT_ZERO,
+    PATCHY_BYTE_AFTER_OUTPUT,
+    PATCHY_ANSWER_ON_REFUSAL,
+    PATCHY_WRONG_MAP_TAKEN,
+    FAULTS
+};
+
+static enum fault fault;
+
+/* Before main, which is compare's. */
+__attribute__((constructor)) static void choose(void)
+{
+    const char *number = getenv("FAULT");
+    fault = number ? (enum fault)atoi(number) : NONE;
+    if (fault >= FAULTS)
+        exit(3);
+}
+
+static uint8_t *copy_of(const uint8_t *bytes, size_t length)
+{
+    return memcpy(lend(length), bytes, length);
+}
+
+uint64_t __wrap_chelmesut_inspect(const uint8_t *file, size_t file_len, uint64_t page, CHELMESUT_LIMITS, uint64_t *budget,
+                                  uint64_t handle[17])
+{
+    uint64_t number = __real_chelmesut_inspect(file, file_len, page, LIMIT_WORDS, budget, handle);
+    if (fault == HANDLE_OF_PREVIOUS_PAGE && number == 0 && page > 0)
+        handle[CHELMESUT_PAGE_INDEX]--;
+    if (fault == HANDLE_WORK_TOO_SMALL && number == 0)
+        handle[CHELMESUT_DECODE_WORK_LIMIT]--;
+    if (fault == HANDLE_WRITTEN_ON_REFUSAL && number != 0)
+        handle[CHELMESUT_SEGMENTS] = 0;
+    if (fault == INSPECT_CHARGES_WHAT_FAILS && number == 7)
+        *budget = 0;
+    return number;
+}
+
+uint64_t __wrap_chelmesut_decode(const uint8_t *file, size_t file_len, uint64_t page, CHELMESUT_LIMITS,
+                                 const uint64_t handle[17], uint64_t *budget, uint8_t *output, size_t output_len,
+                                 uint8_t *scratch, size_t scratch_len)
+{
+    uint64_t before = *budget, all = UINT64_MAX, own[CHELMESUT_HANDLE_WORDS], number;
+    memcpy(own, handle, sizeof own);
+    if (fault == DECODE_TAKES_FORGED_HANDLE)
+        __real_chelmesut_inspect(file, file_len, page, LIMIT_WORDS, &all, own);
+    number =
+        __real_chelmesut_decode(file, file_len, page, LIMIT_WORDS, own, budget, output, output_len, scratch, scratch_len);
+    if (fault == DECODE_OUTPUT_BEFORE_BUDGET && number == 7)
+        output[0] ^= 1;
+    if (number != 0)
+        return number;
+    if (fault == DECODE_BIT_OF_PIXEL)
+        output[own[CHELMESUT_OUTPUT_LEN] / 2] ^= 1;
+    if (fault == DECODE_BYTE_AFTER_OUTPUT && output_len > own[CHELMESUT_OUTPUT_LEN])
+        output[own[CHELMESUT_OUTPUT_LEN]] = 0;
+    if (fault == DECODE_BYTE_AFTER_SCRATCH && scratch_len > own[CHELMESUT_SCRATCH_LEN])
+        scratch[own[CHELMESUT_SCRATCH_LEN]] = 0;
+    if (fault == DECODE_SCRATCH_NOT_ZERO)
+        scratch[own[CHELMESUT_SCRATCH_LEN] - 1] = 1;
+    if (fault == DECODE_CHARGES_NOTHING)
+        *budget = before;
+    return number;
+}
+
+/* The map as a reader with the mistake would see it. */
+static void misread(uint8_t *map, size_t map_len)
+{
+    for (size_t i = map_len; i > 0; i--)
+        if (fault == PATCHY_ODD_MARK_IS_ARRIVED) {
+            map[i - 1] &= 1;
+        } else if (fault == PATCHY_LAST_LOST_BLOCK_PASSED_OVER && map[i - 1] != 1) {
+            map[i - 1] = 1;
+            return;
+        }
+}
+
+/* The first pixel of each lost segment as it was before. */
+static void leave_pixels(const uint64_t answer[5], const uint8_t *quality, const uint8_t *before, uint8_t *output)
+{
+    uint64_t across = (answer[CHELMESUT_A_WIDTH] - 1) / answer[CHELMESUT_A_BLOCK_WIDTH] + 1;
+    for (uint64_t k = 0; k < answer[CHELMESUT_A_SEGMENTS]; k++) {
+        uint64_t y = k / across * answer[CHELMESUT_A_BLOCK_HEIGHT], x = k % across * answer[CHELMESUT_A_BLOCK_WIDTH];
+        uint64_t place = PIXEL * (y * answer[CHELMESUT_A_WIDTH] + x);
+        if (quality[k] != 1)
+            memcpy(output + place, before + place, PIXEL);
+    }
+}
+
+static void spoil_picture(const uint64_t answer[5], uint64_t *budget, const uint8_t *before, uint8_t *output,
+                          size_t output_len, uint8_t *scratch, uint8_t *quality, size_t quality_len)
+{
+    uint64_t pixels = PIXEL * answer[CHELMESUT_A_WIDTH] * answer[CHELMESUT_A_HEIGHT],
+             segments = answer[CHELMESUT_A_SEGMENTS];
+    uint8_t *lost = memchr(quality, 2, segments);
+    if (fault == PATCHY_BIT_OF_PIXEL)
+        output[pixels - 1] ^= 128;
+    if (fault == PATCHY_PREVIOUS_PIXELS)
+        leave_pixels(answer, quality, before, output);
+    if (fault == PATCHY_LOST_MARKED_GOOD && lost)
+        *lost = 1;
+    if (fault == PATCHY_ALL_MARKED_LOST)
+        memset(quality, 2, segments);
+    if (fault == PATCHY_CHARGE_OF_LOST_SEGMENT && lost)
+        *budget += 1;
+    if (fault == PATCHY_QUALITY_STAYS_BEHIND_LAST && quality_len > segments)
+        quality[quality_len - 1] = 1;
+    if (fault == PATCHY_SCRATCH_NOT_ZERO)
+        scratch[0] = 1;
+    if (fault == PATCHY_BYTE_AFTER_OUTPUT && output_len > pixels)
+        output[pixels] = 0;
+}
+
+uint64_t __wrap_chelmesut_read_patchy(const uint8_t *file, size_t file_len, const uint8_t *map, size_t map_len,
+                                      uint64_t page, CHELMESUT_LIMITS, uint64_t *budget, uint8_t *output, size_t output_len,
+                                      uint8_t *scratch, size_t scratch_len, uint8_t *quality, size_t quality_len,
+                                      uint64_t answer[5])
+{
+    uint8_t *seen = copy_of(map, map_len), *before = copy_of(output, output_len), *marks = copy_of(quality, quality_len);
+    uint64_t number;
+    misread(seen, map_len);
+    if (fault == PATCHY_WRONG_MAP_TAKEN && map_len > (file_len + BLOCK - 1) / BLOCK)
+        map_len = 0;
+    number = __real_chelmesut_read_patchy(file, file_len, seen, map_len, page, LIMIT_WORDS, budget, output, output_len,
+                                          scratch, scratch_len, quality, quality_len, answer);
+    if (number == 0)
+        spoil_picture(answer, budget, before, output, output_len, scratch, quality, quality_len);
+    else if (fault == PATCHY_ANSWER_ON_REFUSAL)
+        answer[CHELMESUT_A_WIDTH] = 0;
+    else if (fault == PATCHY_QUALITY_STAYS_ON_REFUSAL)
+        memcpy(quality, marks, quality_len);
+    free(seen);
+    free(before);
+    free(marks);
+    return number;
+}

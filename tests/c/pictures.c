@@ -1,0 +1,325 @@
+/* Files in memory, and LogLuv pictures that libtiff writes into them and reads from them (see pictures.h). */
+#include "pictures.h"
+#include <stdarg.h>
+#include <stdio.h>
+#include <stdlib.h>
+#include <string.h>
+
+void give_up(const char *words, ...)
+{
+    va_list values;
+    va_start(values, words);
+    vfprintf(stderr, words, values);
+    va_end(values);
+    fputc('\n', stderr);
+    exit(2);
+}
+
+void *lend(size_t bytes)
+{
+    void *memory = malloc(bytes ? bytes : 1);
+    if (!memory)
+        give_up("no memory for %zu bytes", bytes);
+    return memory;
+}
+
+static void grow(struct memory *file, size_t length)
+{
+    if (length <= file->room)
+        return;
+    file->room = length < 4096 ? 8192 : 2 * length;
+    file->bytes = realloc(file->bytes, file->room);
+    if (!file->bytes)
+        give_up("no memory for a file of %zu bytes", file->room);
+}
+
+void append(struct memory *file, const void *bytes, size_t length)
+{
+    grow(file, file->length + length);
+    memcpy(file->bytes + file->length, bytes, length);
+    file->length += length;
+}
+
+void read_file(struct memory *file, const char *path)
+{
+    FILE *stream = fopen(path, "rb");
+    uint8_t piece[4096];
+    size_t length;
+    if (!stream)
+        give_up("%s cannot be opened", path);
+    while ((length = fread(piece, 1, sizeof piece, stream)) > 0)
+        append(file, piece, length);
+    if (ferror(stream))
+        give_up("%s cannot be read", path);
+    fclose(stream);
+}
+
+void drop(struct memory *file)
+{
+    free(file->bytes);
+    *file = (struct memory){0};
+}
+
+size_t blocks_of(const struct memory *file)
+{
+    return (file->length + BLOCK - 1) / BLOCK;
+}
+
+/* splitmix64 */
+uint64_t roll(struct dice *dice)
+{
+    uint64_t z = dice->state += 0x9e3779b97f4a7c15u;
+    z = (z ^ (z >> 30)) * 0xbf58476d1ce4e5b9u;
+    z = (z ^ (z >> 27)) * 0x94d049bb133111ebu;
+    return z ^ (z >> 31);
+}
+
+uint32_t below(struct dice *dice, uint32_t bound)
+{
+    return (uint32_t)((roll(dice) >> 32) * bound >> 32);
+}
+
+uint32_t between(struct dice *dice, uint32_t least, uint32_t most)
+{
+    return least + below(dice, most - least + 1);
+}
+
+bool one_in(struct dice *dice, uint32_t n)
+{
+    return below(dice, n) == 0;
+}
+
+size_t pixel_bytes(const struct shape *shape)
+{
+    return (size_t)shape->width * shape->height * PIXEL;
+}
+
+static tmsize_t read_some(thandle_t handle, void *bytes, tmsize_t wanted)
+{
+    struct memory *file = handle;
+    size_t length = (size_t)wanted;
+    if (file->place >= file->length)
+        return 0;
+    if (length > file->length - file->place)
+        length = file->length - file->place;
+    memcpy(bytes, file->bytes + file->place, length);
+    file->place += length;
+    return (tmsize_t)length;
+}
+
+/* What lies between the end of the file and a place behind it is zero. */
+static tmsize_t write_some(thandle_t handle, void *bytes, tmsize_t wanted)
+{
+    struct memory *file = handle;
+    size_t length = (size_t)wanted, end = file->place + length;
+    grow(file, end);
+    if (file->place > file->length)
+        memset(file->bytes + file->length, 0, file->place - file->length);
+    memcpy(file->bytes + file->place, bytes, length);
+    file->place = end;
+    if (end > file->length)
+        file->length = end;
+    return wanted;
+}
+
+static toff_t seek_to(thandle_t handle, toff_t offset, int whence)
+{
+    struct memory *file = handle;
+    if (whence == SEEK_SET)
+        file->place = (size_t)offset;
+    else if (whence == SEEK_CUR)
+        file->place += (size_t)offset;
+    else
+        file->place = file->length + (size_t)offset;
+    return file->place;
+}
+
+static int close_file(thandle_t handle)
+{
+    (void)handle;
+    return 0;
+}
+
+static toff_t size_of(thandle_t handle)
+{
+    return ((struct memory *)handle)->length;
+}
+
+/* libtiff reads where the file lies, as it does with a mapped file: no copy of the stored bytes. */
+static int map_file(thandle_t handle, void **bytes, toff_t *length)
+{
+    struct memory *file = handle;
+    *bytes = file->bytes;
+    *length = file->length;
+    return 1;
+}
+
+static void unmap_file(thandle_t handle, void *bytes, toff_t length)
+{
+    (void)handle;
+    (void)bytes;
+    (void)length;
+}
+
+static TIFF *open_memory(struct memory *file, const char *mode)
+{
+    TIFF *tiff;
+    TIFFSetWarningHandler(NULL);
+    file->place = 0;
+    tiff = TIFFClientOpen("memory", mode, file, read_some, write_some, seek_to, close_file, size_of, map_file, unmap_file);
+    if (!tiff)
+        give_up("libtiff does not open a file in memory");
+    return tiff;
+}
+
+TIFF *open_to_write(struct memory *file, bool big_endian)
+{
+    return open_memory(file, big_endian ? "wb" : "wl");
+}
+
+TIFF *open_to_read(struct memory *file)
+{
+    return open_memory(file, "r");
+}
+
+static void set_number(TIFF *tiff, uint32_t tag, uint32_t value)
+{
+    if (!TIFFSetField(tiff, tag, value))
+        give_up("libtiff does not take %u for tag %u", value, tag);
+}
+
+/* The tile at (x, y) of a page. Beyond the page's edge it repeats the last pixel of the row, and the last row. */
+static void copy_to_tile(const struct shape *shape, uint32_t x, uint32_t y, const int16_t *samples, int16_t *tile)
+{
+    for (uint32_t row = 0; row < shape->block_height; row++)
+        for (uint32_t column = 0; column < shape->block_width; column++) {
+            uint32_t from_x = x + column < shape->width ? x + column : shape->width - 1;
+            uint32_t from_y = y + row < shape->height ? y + row : shape->height - 1;
+            memcpy(tile + 3 * ((size_t)row * shape->block_width + column),
+                   samples + 3 * ((size_t)from_y * shape->width + from_x), PIXEL);
+        }
+}
+
+/* What of the tile at (x, y) lies in the page. */
+static void copy_from_tile(const struct shape *shape, uint32_t x, uint32_t y, const uint8_t *tile, uint8_t *pixels)
+{
+    uint32_t columns = shape->width - x < shape->block_width ? shape->width - x : shape->block_width;
+    uint32_t rows = shape->height - y < shape->block_height ? shape->height - y : shape->block_height;
+    for (uint32_t row = 0; row < rows; row++)
+        memcpy(pixels + PIXEL * ((size_t)(y + row) * shape->width + x), tile + PIXEL * ((size_t)row * shape->block_width),
+               (size_t)columns * PIXEL);
+}
+
+static uint32_t strip_rows(const struct shape *shape, uint32_t y)
+{
+    return shape->height - y < shape->block_height ? shape->height - y : shape->block_height;
+}
+
+static void write_tiles(TIFF *tiff, const struct shape *shape, const int16_t *samples)
+{
+    tmsize_t size = (tmsize_t)PIXEL * shape->block_width * shape->block_height;
+    int16_t *tile = lend((size_t)size);
+    uint32_t segment = 0;
+    for (uint32_t y = 0; y < shape->height; y += shape->block_height)
+        for (uint32_t x = 0; x < shape->width; x += shape->block_width) {
+            copy_to_tile(shape, x, y, samples, tile);
+            if (TIFFWriteEncodedTile(tiff, segment++, tile, size) != size)
+                give_up("libtiff does not write a tile");
+        }
+    free(tile);
+}
+
+static void write_strips(TIFF *tiff, const struct shape *shape, const int16_t *samples)
+{
+    uint32_t segment = 0, rows;
+    for (uint32_t y = 0; y < shape->height; y += rows) {
+        tmsize_t size;
+        rows = strip_rows(shape, y);
+        size = (tmsize_t)PIXEL * shape->width * rows;
+        /* libtiff asks for a buffer that it may change, and does not change it. */
+        if (TIFFWriteEncodedStrip(tiff, segment++, (void *)(samples + 3 * (size_t)y * shape->width), size) != size)
+            give_up("libtiff does not write a strip");
+    }
+}
+
+void write_page(TIFF *tiff, const struct shape *shape, const int16_t *samples)
+{
+    set_number(tiff, TIFFTAG_IMAGEWIDTH, shape->width);
+    set_number(tiff, TIFFTAG_IMAGELENGTH, shape->height);
+    set_number(tiff, TIFFTAG_BITSPERSAMPLE, 16);
+    set_number(tiff, TIFFTAG_SAMPLESPERPIXEL, 3);
+    set_number(tiff, TIFFTAG_SAMPLEFORMAT, SAMPLEFORMAT_INT);
+    set_number(tiff, TIFFTAG_PLANARCONFIG, PLANARCONFIG_CONTIG);
+    set_number(tiff, TIFFTAG_COMPRESSION, COMPRESSION_SGILOG);
+    set_number(tiff, TIFFTAG_PHOTOMETRIC, PHOTOMETRIC_LOGLUV);
+    set_number(tiff, TIFFTAG_SGILOGDATAFMT, SGILOGDATAFMT_16BIT);
+    if (shape->tiled) {
+        set_number(tiff, TIFFTAG_TILEWIDTH, shape->block_width);
+        set_number(tiff, TIFFTAG_TILELENGTH, shape->block_height);
+        write_tiles(tiff, shape, samples);
+    } else {
+        set_number(tiff, TIFFTAG_ROWSPERSTRIP, shape->block_height);
+        write_strips(tiff, shape, samples);
+    }
+    if (!TIFFWriteDirectory(tiff))
+        give_up("libtiff does not write a directory");
+}
+
+static uint32_t number_of(TIFF *tiff, uint32_t tag)
+{
+    uint32_t value = 0;
+    if (!TIFFGetFieldDefaulted(tiff, tag, &value))
+        give_up("libtiff finds no tag %u", tag);
+    return value;
+}
+
+struct shape shape_of(TIFF *tiff)
+{
+    struct shape shape;
+    shape.width = number_of(tiff, TIFFTAG_IMAGEWIDTH);
+    shape.height = number_of(tiff, TIFFTAG_IMAGELENGTH);
+    shape.tiled = TIFFIsTiled(tiff);
+    if (shape.tiled) {
+        shape.block_width = number_of(tiff, TIFFTAG_TILEWIDTH);
+        shape.block_height = number_of(tiff, TIFFTAG_TILELENGTH);
+    } else {
+        shape.block_width = shape.width;
+        shape.block_height = number_of(tiff, TIFFTAG_ROWSPERSTRIP);
+    }
+    return shape;
+}
+
+static void read_tiles(TIFF *tiff, const struct shape *shape, uint8_t *pixels)
+{
+    tmsize_t size = (tmsize_t)PIXEL * shape->block_width * shape->block_height;
+    uint8_t *tile = lend((size_t)size);
+    uint32_t segment = 0;
+    for (uint32_t y = 0; y < shape->height; y += shape->block_height)
+        for (uint32_t x = 0; x < shape->width; x += shape->block_width) {
+            if (TIFFReadEncodedTile(tiff, segment++, tile, size) != size)
+                give_up("libtiff does not read a tile");
+            copy_from_tile(shape, x, y, tile, pixels);
+        }
+    free(tile);
+}
+
+static void read_strips(TIFF *tiff, const struct shape *shape, uint8_t *pixels)
+{
+    uint32_t segment = 0, rows;
+    for (uint32_t y = 0; y < shape->height; y += rows) {
+        tmsize_t size;
+        rows = strip_rows(shape, y);
+        size = (tmsize_t)PIXEL * shape->width * rows;
+        if (TIFFReadEncodedStrip(tiff, segment++, pixels + PIXEL * (size_t)y * shape->width, size) != size)
+            give_up("libtiff does not read a strip");
+    }
+}
+
+void read_pixels(TIFF *tiff, const struct shape *shape, uint8_t *pixels)
+{
+    set_number(tiff, TIFFTAG_SGILOGDATAFMT, SGILOGDATAFMT_16BIT);
+    if (shape->tiled)
+        read_tiles(tiff, shape, pixels);
+    else
+        read_strips(tiff, shape, pixels);
+}

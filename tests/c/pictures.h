@@ -1,0 +1,68 @@
+/* What the programs of this folder share: files in memory, LogLuv pictures that libtiff writes into them and reads from
+ * them, random numbers that are the same in every run, and the limits of a call. */
+#ifndef PICTURES_H
+#define PICTURES_H
+#include <stdbool.h>
+#include <stddef.h>
+#include <stdint.h>
+#include <tiffio.h>
+
+enum { BLOCK = 512, PIXEL = 6 };
+
+/* Says what went wrong by way of printf's words, and ends the program with status 2: a fault of the test itself. */
+_Noreturn void give_up(const char *words, ...) __attribute__((format(printf, 1, 2)));
+
+/* Memory of so many bytes (at least one); there is always some. */
+void *lend(size_t bytes);
+
+/* A file in memory. */
+struct memory {
+    uint8_t *bytes;
+    size_t length, room, place;
+};
+
+void append(struct memory *file, const void *bytes, size_t length);
+void read_file(struct memory *file, const char *path);
+void drop(struct memory *file);
+
+/* Blocks of a file, the last perhaps short. */
+size_t blocks_of(const struct memory *file);
+
+/* Random numbers of a seed. */
+struct dice {
+    uint64_t state;
+};
+
+uint64_t roll(struct dice *dice);
+uint32_t below(struct dice *dice, uint32_t bound);                  /* from 0 to bound - 1 */
+uint32_t between(struct dice *dice, uint32_t least, uint32_t most); /* both may come */
+bool one_in(struct dice *dice, uint32_t n);
+
+/* How a page is cut. A strip's block width is the page's width; its block height may be above the page's, as in a file. */
+struct shape {
+    uint32_t width, height, block_width, block_height;
+    bool tiled;
+};
+
+size_t pixel_bytes(const struct shape *shape);
+
+/* libtiff's handle of a file in memory. Its own messages are kept quiet. */
+TIFF *open_to_write(struct memory *file, bool big_endian);
+TIFF *open_to_read(struct memory *file);
+
+/* Writes a page of samples L, u, v for each pixel; tags that are set before stay. */
+void write_page(TIFF *tiff, const struct shape *shape, const int16_t *samples);
+
+/* What libtiff says of the page that is at hand, and its pixels in 16-bit samples. */
+struct shape shape_of(TIFF *tiff);
+void read_pixels(TIFF *tiff, const struct shape *shape, uint8_t *pixels);
+
+/* The limits of a call, in the order of the C face. */
+struct limits {
+    uint64_t max_input, max_output, max_dimension, max_directories, max_tags, max_segments;
+};
+
+#define WORDS_OF(limits)                                                                        \
+    (limits).max_input, (limits).max_output, (limits).max_dimension, (limits).max_directories,  \
+        (limits).max_tags, (limits).max_segments
+#endif
