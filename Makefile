@@ -72,7 +72,7 @@ faults:
 bench:
 	@tools/need gcc libtiff-dev
 	@$(call build,bench,bench.c)
-	@target/bench $(CAMERA) "$$(uname -m), $$(lscpu | sed -n 's/^Model name: *//p' | head -n 1)" "$$(cat KIT)"
+	@target/bench $(CAMERA) "$$(uname -m), $$(lscpu | sed -n 's/^Model name: *//p' | head -n 1)" "$$(rt version)"
 
 # All symbols are bound before it starts, so that the loader's work is on no stack that is measured.
 worst: LDFLAGS = -Wl,-z,now
