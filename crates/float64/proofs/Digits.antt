@@ -7,29 +7,31 @@ use native.Mathlib.Omega.{arith}
 use native.Mathlib.Nat.{div-lt-iff-lt-mul, div-div-eq-div-mul, div-one, pow-zero, pow-suc, pow-succ', not-suc-le-zero, le-of-suc-le-suc}
 use lib.ListN.{length, getD, set}
 use Rattle.lists.specs.Lists.{span}
-use Rattle.float64.specs.Float64.{number, digits, word}
+use Rattle.float64.specs.Float64.{numberFrom, digits, word}
 use Rattle.lists.proofs.Overlay.{listed}
 
 module _ (p : List ℕ) (r : ℕ) (little : Bool) (n : length p ≡ 8) where
   pub load-little : little ≡ true
-      → r ≡ getD p 0 0 + 256 * (getD p 1 0 + 256 * (getD p 2 0 + 256 * (getD p 3 0 + 256 * (getD p 4 0 + 256 * (getD p 5 0 + 256 * (getD p 6 0 + 256 * getD p 7 0))))))
+      → r ≡ getD p 0 0 + 256 * (getD p 1 0 + 256 * (getD p 2 0 + 256 * (getD p 3 0
+      + 256 * (getD p 4 0 + 256 * (getD p 5 0 + 256 * (getD p 6 0 + 256 * getD p 7 0))))))
       → r ≡ word little p
-  unfolding word number span
-  load-little t e = rw t (omega (arith, ap number (listed 8 p n)))
+  unfolding word numberFrom span
+  load-little t e = rw t (omega (arith, ap numberFrom (listed 8 p n)))
 
   pub load-big : little ≡ false
-      → r ≡ getD p 7 0 + 256 * (getD p 6 0 + 256 * (getD p 5 0 + 256 * (getD p 4 0 + 256 * (getD p 3 0 + 256 * (getD p 2 0 + 256 * (getD p 1 0 + 256 * getD p 0 0))))))
+      → r ≡ getD p 7 0 + 256 * (getD p 6 0 + 256 * (getD p 5 0 + 256 * (getD p 4 0
+      + 256 * (getD p 3 0 + 256 * (getD p 2 0 + 256 * (getD p 1 0 + 256 * getD p 0 0))))))
       → r ≡ word little p
-  unfolding word number span
-  load-big t e = rw t (omega (arith, ap (λ (x : List ℕ). number (reverse x)) (listed 8 p n)))
+  unfolding word numberFrom span
+  load-big t e = rw t (omega (arith, ap (λ (x : List ℕ). numberFrom (reverse x)) (listed 8 p n)))
 
 pub digits-length : (k v : ℕ) → length (digits k v) ≡ k
 unfolding digits
 digits-length zero v = refl
 digits-length (suc k) v = ap suc (digits-length k (v / 256))
 
-pub number-digits : (k v : ℕ) → v < 256 ^ k → number (digits k v) ≡ v
-unfolding digits number
+pub number-digits : (k v : ℕ) → v < 256 ^ k → numberFrom (digits k v) ≡ v
+unfolding digits numberFrom
 number-digits zero v h = omega arith
 number-digits (suc k) v h =
     let l : v / 256 < 256 ^ k = div-lt-iff-lt-mul {k = 256} (omega arith) .1 (rw pow-suc at h) in

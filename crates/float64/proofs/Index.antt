@@ -8,7 +8,7 @@ use lib.ListN.{length, take, drop, getD, length-drop}
 use lib.Seq.{length-take-le, getD-take, getD-drop}
 use Rattle.lists.specs.Lists.{span}
 use Rattle.lists.proofs.Rows.{joined-at, perRow-at}
-use Rattle.float64.specs.Float64.{number, word, value, sample, row64, samples, size64}
+use Rattle.float64.specs.Float64.{numberFrom, word, value, sample, row64, samples, size64}
 use Rattle.lists.proofs.Overlay.{listed}
 use Rattle.float64.proofs.Digits.{digit-at}
 use Rattle.float64.proofs.Written.{bytesOf, eight}
@@ -26,8 +26,8 @@ decoded little predict w h ch reset raw long y n j a b c =
     ∙ digit-at 8 _ j c
 
 -- eight bytes are a number below 2^64, in both orders
-numbers-fit : (p : List ℕ) → length p ≡ 8 → ((k : ℕ) → k < 8 → getD p k 0 < 256) → (number p < 2 ^ 64) × (number (reverse p) < 2 ^ 64)
-unfolding number span
+numbers-fit : (p : List ℕ) → length p ≡ 8 → ((k : ℕ) → k < 8 → getD p k 0 < 256) → (numberFrom p < 2 ^ 64) × (numberFrom (reverse p) < 2 ^ 64)
+unfolding numberFrom span
 numbers-fit p l b =
     let b0 = b 0 (omega arith) in
     let b1 = b 1 (omega arith) in
@@ -37,7 +37,7 @@ numbers-fit p l b =
     let b5 = b 5 (omega arith) in
     let b6 = b 6 (omega arith) in
     let b7 = b 7 (omega arith) in
-    (omega (arith, ap number (listed 8 p l)), omega (arith, ap (λ (x : List ℕ). number (reverse x)) (listed 8 p l)))
+    (omega (arith, ap numberFrom (listed 8 p l)), omega (arith, ap (λ (x : List ℕ). numberFrom (reverse x)) (listed 8 p l)))
 
 word-fits : (little : Bool) (p : List ℕ) → length p ≡ 8 → ((k : ℕ) → k < 8 → getD p k 0 < 256) → word little p < 2 ^ 64
 unfolding word

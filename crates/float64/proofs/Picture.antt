@@ -9,7 +9,7 @@ use borrow.Rule.Slice.PartMut.{midOf, putMid, mid-len}
 use Rattle.lists.specs.Lists.{overlay}
 use Rattle.lists.proofs.Rows.{Rowing, rowing-in, rowing-out, rowing-more, rowing-all, joined-length}
 use Rattle.float64.specs.Float64.{row64, samples}
-use Rattle.float64.specs.Steps.{RowFits, Fitting}
+use Rattle.float64.specs.Inner.{RowFits, Fitting}
 use Rattle.float64.proofs.Written.{bytesOf, eight}
 
 pub row-length : (little predict : Bool) (w ch reset : ℕ) (row : List ℕ) → length (row64 little predict w ch reset row) ≡ 8 * (w * ch)

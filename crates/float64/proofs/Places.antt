@@ -4,7 +4,7 @@ use mathlib.Core.Path.{_≡_, sym}
 use native.Mathlib.Omega.{arith}
 use borrow.Author.Needs.{needs}
 use native.Mathlib.Nat.{mod-lt, zero-mod, zero-div}
-use Rattle.float64.specs.Steps.{Standing}
+use Rattle.float64.specs.Inner.{Standing}
 use Rattle.lists.proofs.Counters.{stay-mod, stay-div, turn-mod, turn-div}
 
 pub standing-first : (ch reset : ℕ) → 0 < ch → 0 < reset → Standing ch reset 0 0 0

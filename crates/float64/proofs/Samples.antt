@@ -9,23 +9,23 @@ use borrow.Author.Tests.{lt-ltb, le-ltb}
 use borrow.Rule.Slice.PartMut.{midOf}
 use Rattle.lists.specs.Sums.{summedBack}
 use Rattle.lists.proofs.Sums.{sum-first, sum-step, sum-fits}
-use Rattle.float64.specs.Float64.{number, word, value, sample}
-use Rattle.float64.specs.Steps.{Standing, summed}
+use Rattle.float64.specs.Float64.{numberFrom, word, value, sample}
+use Rattle.float64.specs.Inner.{Standing, sampleSum}
 use Rattle.lists.proofs.Counters.{turn-before}
 
 -- the three returns of sum_at
 module _ (predict : Bool) (since v b : ℕ) where
-  pub summed-plain : predict ≡ false → v ≡ summed predict since v b
+  pub summed-plain : predict ≡ false → v ≡ sampleSum predict since v b
   summed-plain e = rw e
 
-  pub summed-anew : predict ≡ true → since ≤ 0 → v ≡ summed predict since v b
+  pub summed-anew : predict ≡ true → since ≤ 0 → v ≡ sampleSum predict since v b
   summed-anew e h = rw e (simp (le-ltb 0 since h))
 
-  pub summed-on : (r : ℕ) → predict ≡ true → 0 < since → r ≡ (v + b) % 2 ^ 64 → r ≡ summed predict since v b
+  pub summed-on : (r : ℕ) → predict ≡ true → 0 < since → r ≡ (v + b) % 2 ^ 64 → r ≡ sampleSum predict since v b
   summed-on r e h q = rw e (simp (lt-ltb 0 since h) q)
 
 pub summed-part : (predict : Bool) (since v b r from : ℕ) (front : List ℕ) → predict ≡ true → 0 < since
-    → b ≡ word true (midOf from (from + 8 - from) front) → r ≡ (v + b) % 2 ^ 64 → r ≡ summed predict since v (number (take 8 (drop from front)))
+    → b ≡ word true (midOf from (from + 8 - from) front) → r ≡ (v + b) % 2 ^ 64 → r ≡ sampleSum predict since v (numberFrom (take 8 (drop from front)))
 unfolding word
 summed-part predict since v b r from front e h q t =
     let k : from + 8 - from ≡ 8 = omega arith in
@@ -47,7 +47,8 @@ module _ (little : Bool) (ch reset : ℕ) (row : List ℕ) (n : ℕ) where
   unfolding sample
   sample-next a b some =
       let e : n / ch % reset ≡ suc (n / ch % reset - 1) = omega arith in
-      rw (turn-before n ch reset (n / ch % reset - 1) a b e) (ap (summedBack 64 (value little row) ch n) e ∙ sym (sum-step 64 (value little row) ch n (n / ch % reset - 1)))
+      let step = sym (sum-step 64 (value little row) ch n (n / ch % reset - 1)) in
+      rw (turn-before n ch reset (n / ch % reset - 1) a b e) (ap (summedBack 64 (value little row) ch n) e ∙ step)
 
   pub sample-fits : sample little true ch reset row n < 2 ^ 64
   unfolding sample
@@ -57,7 +58,7 @@ module _ (little : Bool) (ch reset : ℕ) (row : List ℕ) (n : ℕ) where
 pub sample-is : (little predict : Bool) (ch reset : ℕ) (row : List ℕ) (n channel since b : ℕ)
     → Standing ch reset n channel since → value little row n < 2 ^ 64
     → (predict ≡ true → 0 < since → b ≡ sample little predict ch reset row (n - ch))
-    → summed predict since (value little row n) b ≡ sample little predict ch reset row n
+    → sampleSum predict since (value little row n) b ≡ sample little predict ch reset row n
 sample-is little false ch reset row n channel since b s h e = sym (sample-plain little ch reset row n)
 sample-is little true ch reset row n channel zero b s h e = sym (sample-first little ch reset row n (sym (s .since-is)) h)
 sample-is little true ch reset row n channel (suc k) b s h e =

@@ -7,11 +7,10 @@ use native.Mathlib.Omega.{arith}
 use native.Mathlib.Nat.{sub-zero}
 use lib.ListN.{length, take, drop}
 use borrow.Rule.Slice.PartMut.{midOf, putMid, mid-len}
-use Rattle.lists.proofs.Rows.{Even, Joining, joining-none, joining-more, joining-exactly}
-use Rattle.float64.specs.Float64.{number, digits, word, value, sample, row64}
-use Rattle.float64.specs.Steps.{Standing, Behind, RowFits, summed}
+use Rattle.lists.proofs.Rows.{Even, Joining, joining-none, joining-more, joining-exactly, joining-part}
+use Rattle.float64.specs.Float64.{numberFrom, digits, word, value, sample, row64}
+use Rattle.float64.specs.Inner.{Standing, Behind, RowFits, sampleSum}
 use Rattle.lists.proofs.Counters.{group-before}
-use Rattle.lists.proofs.Rows.{joining-part}
 use Rattle.float64.proofs.Digits.{digits-length, number-digits}
 use Rattle.float64.proofs.Places.{standing-first}
 use Rattle.float64.proofs.Samples.{sample-is, sample-fits}
@@ -50,7 +49,8 @@ sampling-none little predict w ch reset raw out s =
       joins = joining-none _ 8 (w * ch) out (omega (arith, s .room));
     }
 
-module _ (little predict : Bool) (w ch reset : ℕ) (raw old out : List ℕ) (i at channel since : ℕ) (s : Sampling little predict w ch reset raw old out i at channel since) where
+module _ (little predict : Bool) (w ch reset : ℕ) (raw old out : List ℕ) (i at channel since : ℕ)
+    (s : Sampling little predict w ch reset raw old out i at channel since) where
   -- all is written
   pub sampling-all : length raw ≤ at → out ≡ row64 little predict w ch reset raw
   unfolding row64
@@ -68,7 +68,7 @@ module _ (little predict : Bool) (w ch reset : ℕ) (raw old out : List ℕ) (i 
       record { whole = omega (arith, s .stands .channels); inside = λ p. omega (arith, behind p, front-long, s .joins .put) }
 
   -- and what is read of it is that sample
-  read-again : predict ≡ true → 0 < since → number (again out at ch) ≡ sample little predict ch reset raw (i - ch)
+  read-again : predict ≡ true → 0 < since → numberFrom (again out at ch) ≡ sample little predict ch reset raw (i - ch)
   read-again t p =
       let e : length (midOf 0 (at - 0) out) - 8 * ch ≡ (i - ch) * 8 = omega (arith, front-long, s .joins .put) in
       let l : i - ch < i = omega (arith, behind p, s .stands .channels) in
@@ -76,14 +76,14 @@ module _ (little predict : Bool) (w ch reset : ℕ) (raw old out : List ℕ) (i 
       (number-digits 8 _ (sample-fits little ch reset raw (i - ch)))
 
   pub sampling-more : at < length raw → (v r : ℕ) (ys : List ℕ) (channel′ since′ : ℕ) → v ≡ word little (midOf at (at + 8 - at) raw) → v < 2 ^ 64
-      → r ≡ summed predict since v (number (again out at ch)) → ys ≡ digits 8 r
+      → r ≡ sampleSum predict since v (numberFrom (again out at ch)) → ys ≡ digits 8 r
       → Standing ch reset (i + 1) channel′ since′
       → Sampling little predict w ch reset raw old (putMid at (at + 8 - at) out ys) (i + 1) (at + 8) channel′ since′
   sampling-more h v r ys channel′ since′ ev lv er ey st =
       let n : i < w * ch = omega (arith, s .joins .put, s .input) in
       let v-is : v ≡ value little raw i = ev ∙ part-value little raw i at (s .joins .put) in
       let r-is : r ≡ sample little predict ch reset raw i =
-      er ∙ rw v-is (sample-is little predict ch reset raw i channel since (number (again out at ch)) (s .stands) (rw v-is at lv) read-again) in
+      er ∙ rw v-is (sample-is little predict ch reset raw i channel since (numberFrom (again out at ch)) (s .stands) (rw v-is at lv) read-again) in
       record {
         input = s .input;
         room = s .room;

@@ -8,11 +8,12 @@ use Rattle.lists.specs.Lists.{pick, joined, perRow}
 use Rattle.lists.specs.Sums.{summedBack}
 use Rattle.checks.specs.Numbers.{truncated, invalid, unsupported, limit, outputTooSmall}
 use Rattle.checks.specs.Checks.{Check, must}
+use Rattle.checks.specs.Sizes.{most64}
 
 -- the number that bytes stand for, the least significant first, and back
-unfoldable pub number : List ℕ → ℕ
-number [] = 0
-number (b ∷ bs) = b + 256 * number bs
+unfoldable pub numberFrom : List ℕ → ℕ
+numberFrom [] = 0
+numberFrom (b ∷ bs) = b + 256 * numberFrom bs
 
 unfoldable pub digits : ℕ → ℕ → List ℕ
 digits zero v = []
@@ -20,7 +21,7 @@ digits (suc k) v = v % 256 ∷ digits k (v / 256)
 
 -- eight bytes in the byte order that is named
 unfoldable pub word : Bool → List ℕ → ℕ
-word little bs = number (pick little bs (reverse bs))
+word little bs = numberFrom (pick little bs (reverse bs))
 
 -- the n-th word of a row
 unfoldable pub value : Bool → List ℕ → ℕ → ℕ
@@ -47,6 +48,6 @@ abbrev pub checks64 : ℕ → ℕ → ℕ → ℕ → ℕ → ℕ → List Check
 checks64 w h ch reset raw out =
     must (ltb 0 ch) unsupported ∷ must (leb ch 4) unsupported ∷
     must (ltb 0 w) invalid ∷ must (ltb 0 h) invalid ∷ must (ltb 0 reset) invalid ∷
-    must (leb (size64 w h ch) 18446744073709551615) limit ∷
+    must (leb (size64 w h ch) most64) limit ∷
     must (leb (size64 w h ch) raw) truncated ∷
     must (leb (size64 w h ch) out) outputTooSmall ∷ []

@@ -1,2 +1,2 @@
 pub mod Float64
-pub mod Steps
+pub mod Inner

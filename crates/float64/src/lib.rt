@@ -12,8 +12,8 @@ ghost use lib.ListN.{length, take, drop};
 ghost use Rattle.lists.specs.Lists.{overlay};
 ghost use Rattle.checks.specs.Checks.{verdict};
 ghost use Rattle.checks.specs.Buffers.{afterwards};
-ghost use Rattle.float64.specs.Float64.{number, word, digits, row64, samples, checks64};
-ghost use Rattle.float64.specs.Steps.{Standing, Behind, RowFits, Fitting, summed};
+ghost use Rattle.float64.specs.Float64.{numberFrom, word, digits, row64, samples, checks64};
+ghost use Rattle.float64.specs.Inner.{Standing, Behind, RowFits, Fitting, sampleSum};
 
 // The number of eight bytes, the least significant first.
 fn join(a: u8, b: u8, c: u8, d: u8, e: u8, f: u8, g: u8, h: u8) -> u64
@@ -91,7 +91,7 @@ fn after(p: Place, i: usize, ch: usize, reset: usize) -> Place
 // The value v of the sample after those in front; where the sum goes on, with the sample that lies lag bytes back added.
 fn sum_at(front: &[u8], lag: usize, since: usize, predict: bool, v: u64) -> u64
     requires { ⌜ Behind (now front) lag since ⌝ }
-    ensures { λ r. ⌜ r ≡ summed predict since v (number (take 8 (drop (length (now (front .entry)) - lag) (now (front .entry))))) ⌝ }
+    ensures { λ r. ⌜ r ≡ sampleSum predict since v (numberFrom (take 8 (drop (length (now (front .entry)) - lag) (now (front .entry))))) ⌝ }
 {
     if predict {
         if 0 < since {

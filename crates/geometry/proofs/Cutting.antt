@@ -12,7 +12,8 @@ use borrow.Author.Tests.{lt-ltb, le-ltb}
 use Rattle.lists.specs.Lists.{pick, lesser}
 use Rattle.lists.proofs.Counters.{grouped-in}
 use Rattle.lists.proofs.Lesser.{lesser-min}
-use Rattle.geometry.specs.Geometry.{pieces, rowsOf, byteSegment, byteLocal, Cut}
+use Rattle.geometry.specs.Geometry.{pieces, rowsOf, byteSegment, byteLocal}
+use Rattle.geometry.specs.Inner.{Cut}
 
 -- blocks along a side, and their number as a word
 module _ (side block : ℕ) (some : 0 < side) where
@@ -96,7 +97,14 @@ module _ (size w bw bh across k : ℕ) (some-w : 0 < w) (some-bw : 0 < bw) (cut 
   unfolding byteSegment
   segment-column = digits-mod (k / size / w / bh) column-in
 
-module _ (size w h bw bh across k : ℕ) (some-size : 0 < size) (some-w : 0 < w) (some-bw : 0 < bw) (some-bh : 0 < bh) (cut : across ≡ pieces w bw) (within : k < size * (w * h)) where
+module _
+    (size w h bw bh across k : ℕ)
+    (some-size : 0 < size)
+    (some-w : 0 < w)
+    (some-bw : 0 < bw)
+    (some-bh : 0 < bh)
+    (cut : across ≡ pieces w bw)
+    (within : k < size * (w * h)) where
   row-in : k / size / w < h
   row-in =
       let a : k < w * h * size = omega (arith, mul-comm size (w * h)) in
@@ -162,5 +170,10 @@ module _ (size w bw bh across : ℕ) (some-size : 0 < size) (some-w : 0 < w) (so
         (div-add-mod' k size)
 
   -- two output bytes at one place of one segment are the same byte
-  pub same-place : (j k : ℕ) → byteSegment size w bw bh across j ≡ byteSegment size w bw bh across k → byteLocal size w bw bh j ≡ byteLocal size w bw bh k → j ≡ k
-  same-place j k s l = sym (byte-back j) ∙ ap (λ (x : ℕ). byteOf size w bw bh across x (byteLocal size w bw bh j)) s ∙ ap (byteOf size w bw bh across (byteSegment size w bw bh across k)) l ∙ byte-back k
+  pub same-place : (j k : ℕ) → byteSegment size w bw bh across j ≡ byteSegment size w bw bh across k
+      → byteLocal size w bw bh j ≡ byteLocal size w bw bh k → j ≡ k
+  same-place j k s l =
+      sym (byte-back j)
+      ∙ ap (λ (x : ℕ). byteOf size w bw bh across x (byteLocal size w bw bh j)) s
+      ∙ ap (byteOf size w bw bh across (byteSegment size w bw bh across k)) l
+      ∙ byte-back k

@@ -1,7 +1,15 @@
 -- How a picture is cut into segments, and where each byte of the output lies in them.
-use Prim.Native.Nat.{ℕ, _+_, _-_, _*_, _/_, _%_, _<_}
+use Prim.Native.Nat.{ℕ, _+_, _-_, _*_, _/_, _%_}
 use mathlib.Core.Bool.{Bool}
 use Rattle.lists.specs.Lists.{pick, lesser}
+
+-- the greatest side of a block
+abbrev pub mostSide : ℕ
+mostSide = 16384
+
+-- and so the greatest area
+abbrev pub mostArea : ℕ
+mostArea = mostSide * mostSide
 
 -- blocks along a side
 abbrev pub pieces : ℕ → ℕ → ℕ
@@ -25,8 +33,3 @@ module _ (size w bw bh : ℕ) where
 
   unfoldable pub byteLocal : ℕ → ℕ
   byteLocal k = localOf size bw bh (k / size % w) (k / size / w) (k % size)
-
--- a segment of a picture
-pub record Cut (height bh across segment : ℕ) : Type 0 where
-  pub some-across : 0 < across
-  pub begins-inside : segment / across * bh < height

@@ -1,1 +1,3 @@
 pub mod Geometry
+pub mod Costs
+pub mod Inner

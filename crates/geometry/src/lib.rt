@@ -1,7 +1,11 @@
-// How a picture is cut into segments: blocks across and down, and the rows of a segment.
+// How a picture is cut into segments, and what a segment of some area needs and costs: numbers alone.
+use checks::Size;
 ghost use mathlib.Core.Path.{_≡_};
-ghost use Prim.Native.Nat.{_<_, _≤_};
-ghost use Rattle.geometry.specs.Geometry.{pieces, rowsOf, Cut};
+ghost use Prim.Native.Nat.{_*_, _<_, _≤_};
+ghost use Rattle.checks.specs.Sizes.{within};
+ghost use Rattle.geometry.specs.Geometry.{mostSide, mostArea, pieces, rowsOf};
+ghost use Rattle.geometry.specs.Costs.{neededFor, scratchFor, fee};
+ghost use Rattle.geometry.specs.Inner.{Cut};
 
 // Blocks along a side, the last of which may stand over.
 pub fn pieces_of(side: usize, block: usize) -> usize
@@ -31,4 +35,36 @@ pub fn rows_of(
     } else {
         block_height
     }
+}
+
+// Width × rows, neither above the greatest side of a block, so it is small.
+pub fn area(width: usize, rows: usize) -> usize
+    requires { ⌜ (width ≤ mostSide) × (rows ≤ mostSide) ⌝ }
+    ensures { λ r. ⌜ (r ≡ width * rows) × (r ≤ mostArea) ⌝ }
+{
+    width * rows
+}
+
+// The bytes that packets must fill for an area.
+pub fn needed_for(area: usize) -> usize
+    requires { ⌜ area ≤ mostArea ⌝ }
+    ensures { λ r. ⌜ r ≡ neededFor area ⌝ }
+{
+    4 * area
+}
+
+// The scratch by way of which an area is shown.
+pub fn scratch_for(area: usize) -> usize
+    requires { ⌜ area ≤ mostArea ⌝ }
+    ensures { λ r. ⌜ r ≡ scratchFor area ⌝ }
+{
+    10 * area
+}
+
+// What so many stored bytes and such an area cost.
+pub fn fee_of(count: usize, area: usize) -> Size
+    requires { ⌜ area ≤ mostArea ⌝ }
+    ensures { λ r. ⌜ r ≡ within (fee count area) ⌝ }
+{
+    checks::sum(count, 20 * area + 1)
 }

@@ -1,4 +1,2 @@
-pub mod Laws
-pub mod Expand
+pub mod Ranges
 pub mod Steps
-pub mod Index

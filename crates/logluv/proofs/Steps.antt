@@ -13,11 +13,12 @@ use borrow.Author.Needs.{needs}
 use borrow.Author.Tests.{le-leb, lt-leb, ltb-true, ltb-false, leb-false}
 use Rattle.lists.specs.Lists.{pick, overlay}
 use Rattle.lists.proofs.Wrote.{Wrote, wrote-none, wrote-one, wrote-all}
-use Rattle.logluv.specs.Packets.{lenOf, payloadOf, piece, expand}
-use Rattle.logluv.specs.Ahead.{Accepted, PacketIs, fresh, ahead, Sound, Opened, Ready, Stepped}
+use Rattle.packets.specs.Packets.{lenOf, payloadOf, piece, expand}
+use Rattle.packets.specs.Inner.{Accepted, PacketIs}
+use Rattle.logluv.specs.Inner.{startCursor, ahead, SoundCursor, Opened, Ready, Stepped}
 use Rattle.logluv.specs.declared.Cursor.{Cursor}
-use Rattle.logluv.proofs.Laws.{len-literal, len-run, payload-literal, payload-run}
-use Rattle.logluv.proofs.Expand.{expand-at, expand-end, expand-length, piece-literal, piece-run, good}
+use Rattle.packets.proofs.Laws.{len-literal, len-run, payload-literal, payload-run}
+use Rattle.packets.proofs.Expand.{expand-at, expand-end, expand-length, piece-literal, piece-run, good}
 
 pick-same : (b : Bool) (x : List ℕ) → pick b x x ≡ x
 pick-same true x = refl
@@ -28,7 +29,7 @@ ahead-none : (p : List ℕ) (c : Cursor) → c .run ≡ 0 → ahead p c ≡ expa
 unfolding ahead
 ahead-none p c e = rw (e, pick-same (c .repeat) [])
 
-pub fresh-sound : (p : List ℕ) (needed : ℕ) → Accepted p needed → Sound p fresh
+pub fresh-sound : (p : List ℕ) (needed : ℕ) → Accepted p needed → SoundCursor p startCursor
 fresh-sound p needed a =
     record { inside = omega arith; byte = λ h. absurd (omega arith); literal = λ e. omega arith; left = needed; rest = a }
 
@@ -53,7 +54,7 @@ module _ (p : List ℕ) (at control len payload : ℕ) (k : PacketIs p at contro
           rw (le-leb 128 control l, k .len-is ∙ len-run control l)
           (sym (after ∙ rw (piece-run control (drop (at + 1) p) l, getD-drop (at + 1) p 0 0, add-zero (at + 1))))
 
-  opened-sound : (left : ℕ) → Accepted (drop at p) left → Sound p (opens at control len payload)
+  opened-sound : (left : ℕ) → Accepted (drop at p) left → SoundCursor p (opens at control len payload)
   opened-sound left a =
       let g = good p at left h a in
       let i : at + 1 + payload ≤ length p = rw (k .payload-is ∙ ap payloadOf (k .control-is)) (g .inside) in
@@ -77,7 +78,7 @@ more-packets p c e s = by (ltb (c .at) (length p)) refl
     by true t = ltb-true _ _ t
     by false t = absurd (omega (arith, ap length (ahead-none p c e ∙ expand-end p (c .at) (ltb-false _ _ t))))
 
-pub opened : (p : List ℕ) (c : Cursor) (control len payload : ℕ) → Sound p c → c .run ≡ 0 → 0 < length (ahead p c)
+pub opened : (p : List ℕ) (c : Cursor) (control len payload : ℕ) → SoundCursor p c → c .run ≡ 0 → 0 < length (ahead p c)
     → PacketIs p (c .at) control len payload → Opened p c (opens (c .at) control len payload)
 opened p c control len payload s e some k =
     let h = more-packets p c e some in
@@ -105,7 +106,13 @@ module _ (p : List ℕ) (c d : Cursor) (r : Ready p c d) where
   unfolding ahead
   step-run e =
       record {
-        sound = record { inside = r .sound .inside; byte = λ h. byte-in; literal = λ q. absurd (let z : _≡_ {A = ℕ} 0 1 = cc in omega arith); left = r .sound .left; rest = r .sound .rest };
+        sound = record {
+          inside = r .sound .inside;
+          byte = λ h. byte-in;
+          literal = λ q. absurd (let z : _≡_ {A = ℕ} 0 1 = cc in omega arith);
+          left = r .sound .left;
+          rest = r .sound .rest;
+        };
         gives = sym (r .same) ∙ rw (e, run-more (d .run) (getD p (d .place) 0) (r .some));
       }
 
@@ -114,20 +121,26 @@ module _ (p : List ℕ) (c d : Cursor) (r : Ready p c d) where
   step-literal e =
       let l = r .sound .literal e in
       record {
-        sound = record { inside = r .sound .inside; byte = λ h. omega arith; literal = λ q. omega (arith, r .some); left = r .sound .left; rest = r .sound .rest };
+        sound = record {
+          inside = r .sound .inside;
+          byte = λ h. omega arith;
+          literal = λ q. omega (arith, r .some);
+          left = r .sound .left;
+          rest = r .sound .rest;
+        };
         gives = sym (r .same) ∙ rw (e, literal-more p (d .run) (d .place) (r .some) byte-in);
       }
 
 -- The loop that writes the bytes, one a step.
 pub record Giving (p : List ℕ) (needed : ℕ) (old out : List ℕ) (c : Cursor) (i : ℕ) : Type 0 where
-  pub sound : Sound p c
+  pub sound : SoundCursor p c
   pub upto : i ≤ needed
   pub room : needed ≤ length old
   pub long : length out ≡ length old
   pub wrote : Wrote (expand p 0) (ahead p c) old out i
   pub whole : length (expand p 0) ≡ needed
 
-pub giving-none : (p : List ℕ) (needed : ℕ) (out : List ℕ) (c : Cursor) → Accepted p needed → needed ≤ length out → c ≡ fresh
+pub giving-none : (p : List ℕ) (needed : ℕ) (out : List ℕ) (c : Cursor) → Accepted p needed → needed ≤ length out → c ≡ startCursor
     → Giving p needed out out c 0
 giving-none p needed out c a h e =
     rw e
@@ -136,7 +149,7 @@ giving-none p needed out c a h e =
       upto = omega arith;
       room = h;
       long = refl;
-      wrote = rw (ahead-none p fresh refl) (wrote-none (expand p 0) out);
+      wrote = rw (ahead-none p startCursor refl) (wrote-none (expand p 0) out);
       whole = expand-length p needed a;
     })
 

@@ -1,4 +1,4 @@
--- A pixel as six stores, a row as pixels joined, and the rows one after the other.
+-- The rows of pixels one after the other, and the sizes of planes and pixels.
 use Prim.Native.Nat.{ℕ, _+_, _-_, _*_, _/_, _%_, _<_, _≤_}
 use mathlib.Core.Path.{_≡_, refl, ap, _∙_}
 use mathlib.Core.List.{List, [], _∷_}
@@ -7,50 +7,20 @@ use native.Mathlib.Nat.{mul-comm, mul-left-comm, mul-le-mul-right, zero-mul}
 use borrow.Author.Needs.{needs}
 use borrow.Rule.Slice.PartMut.{midOf, putMid}
 use lib.ListN.{length, getD, set}
-use Rattle.lists.specs.Lists.{span, overlay}
-use Rattle.lists.proofs.Overlay.{listed}
-use Rattle.lists.proofs.Rows.{Even, EvenRow, Joining, Rowing, joining-none, joining-fits, joining-more, joining-exactly, joined-length, rowing-more, rowing-all, perRow-length}
+use Rattle.lists.specs.Lists.{overlay}
+use Rattle.pixel.proofs.Rows.{row-length}
+use Rattle.lists.proofs.Rows.{EvenRow, Rowing, rowing-more, rowing-all, perRow-length}
 use Rattle.checks.specs.Numbers.{truncated, outputTooSmall}
 use Rattle.checks.specs.Checks.{verdict}
 use Rattle.checks.specs.declared.Verdict.the-variants.{Fine, Refused}
 use Rattle.checks.proofs.Rules.{verdicts}
 use Rattle.checks.proofs.Sizes.{Known}
-use Rattle.luv.specs.Luv.{uv, pixel, pixelAt, rowPixels, pixels, Roomy, convertChecks}
-
--- six stores fill a list of six
-pub six-pixel : (d : List ℕ) (high low u v a b : ℕ) → length d ≡ 6 → a ≡ uv u → b ≡ uv v
-    → set (set (set (set (set (set d 0 low) 1 high) 2 (a % 256)) 3 (a / 256)) 4 (b % 256)) 5 (b / 256) ≡ pixel high low u v
-unfolding pixel span
-six-pixel d high low u v a b n p q = rw (listed 6 d n, p, q)
-
-pixel-length : (w : ℕ) (row : List ℕ) (i : ℕ) → length (pixelAt w row i) ≡ 6
-unfolding pixelAt pixel
-pixel-length w row i = refl
-
-pub six-a-pixel : (w : ℕ) (row : List ℕ) (n : ℕ) → Even (pixelAt w row) 6 n
-six-a-pixel w row n i h = pixel-length w row i
-
--- the loop over a row
-pub row-none : (w : ℕ) (row : List ℕ) (n : ℕ) (out : List ℕ) → length out ≡ 6 * n → Joining (pixelAt w row) 6 n out out 0 0
-row-none w row n out h = joining-none (pixelAt w row) 6 n out (omega arith)
-
-pub row-more : (w : ℕ) (row : List ℕ) (n : ℕ) (old out : List ℕ) (i o : ℕ) (ys : List ℕ) → Joining (pixelAt w row) 6 n old out i o → i < n
-    → ys ≡ pixel (getD row i 0) (getD row (w + i) 0) (getD row (2 * w + i) 0) (getD row (3 * w + i) 0)
-    → Joining (pixelAt w row) 6 n old (putMid o (o + 6 - o) out ys) (i + 1) (o + 6)
-unfolding pixelAt
-row-more w row n old out i o ys s h e =
-    joining-more (pixelAt w row) 6 n old out i o s h ys e (ap length e ∙ pixel-length w row i)
-
-pub row-all : (w : ℕ) (row : List ℕ) (n : ℕ) (old out : List ℕ) (i o : ℕ) → Joining (pixelAt w row) 6 n old out i o → n ≤ i → length old ≡ 6 * n
-    → out ≡ rowPixels w n row
-unfolding rowPixels
-row-all w row n old out i o s h l = joining-exactly (pixelAt w row) 6 n old out i o s h (six-a-pixel w row n) (omega arith)
+use Rattle.checks.specs.Sizes.{most64}
+use Rattle.pixel.specs.Luv.{rowPixels, pixels}
+use Rattle.luv.specs.Convert.{convertChecks}
+use Rattle.luv.specs.Inner.{Roomy}
 
 -- the loop over the rows
-pub row-length : (w n : ℕ) (row : List ℕ) → length (rowPixels w n row) ≡ 6 * n
-unfolding rowPixels
-row-length w n row = joined-length (pixelAt w row) 6 n (six-a-pixel w row n) ∙ mul-comm n 6
-
 pub rows-even : (w : ℕ) → EvenRow (rowPixels w w) (4 * w) (6 * w)
 rows-even w xs h = row-length w w xs
 
@@ -60,7 +30,8 @@ pub rows-more : (w n : ℕ) (xs old out : List ℕ) (r at o : ℕ) (ys : List �
 rows-more w n xs old out r at o ys s h e =
     rowing-more (rowPixels w w) (4 * w) (6 * w) n xs old out r at o s h ys e (ap length e ∙ row-length w w _)
 
-pub rows-all : (w n : ℕ) (xs old out : List ℕ) (r at o : ℕ) → Rowing (rowPixels w w) (4 * w) (6 * w) n xs old out r at o → n ≤ r → out ≡ overlay (pixels w n xs) old
+pub rows-all : (w n : ℕ) (xs old out : List ℕ) (r at o : ℕ) → Rowing (rowPixels w w) (4 * w) (6 * w) n xs old out r at o → n ≤ r
+    → out ≡ overlay (pixels w n xs) old
 unfolding pixels
 rows-all w n xs old out r at o s h = rowing-all (rowPixels w w) (4 * w) (6 * w) n xs old out r at o s h (rows-even w)
 
@@ -76,7 +47,7 @@ module _ (w rows size : ℕ) (k : Known (rows * (6 * w)) size) where
   module _ (z : size ≡ 0) where
     pub none-fine : (planes out : ℕ) → Fine ≡ verdict (convertChecks w rows planes out)
     none-fine planes out =
-        let a : rows * (6 * w) ≤ 18446744073709551615 = k .small in
+        let a : rows * (6 * w) ≤ most64 = k .small in
         let b : rows * (4 * w) ≤ planes = omega (arith, planes-size) in
         let d : rows * (6 * w) ≤ out = omega (arith, k .is) in
         search verdicts
@@ -84,7 +55,8 @@ module _ (w rows size : ℕ) (k : Known (rows * (6 * w)) size) where
     pub none-written : (planes out : List ℕ) → out ≡ overlay (pixels w rows planes) out
     unfolding pixels overlay
     none-written planes out =
-        rw (empty (pixels w rows planes) (perRow-length (rowPixels w w) (4 * w) (6 * w) rows planes (omega (arith, planes-size)) (rows-even w) ∙ omega (arith, k .is)))
+        let long = perRow-length (rowPixels w w) (4 * w) (6 * w) rows planes (omega (arith, planes-size)) (rows-even w) in
+        rw (empty (pixels w rows planes) (long ∙ omega (arith, k .is)))
       where
         empty : (l : List ℕ) → length l ≡ 0 → l ≡ []
         empty [] e = refl
@@ -92,14 +64,14 @@ module _ (w rows size : ℕ) (k : Known (rows * (6 * w)) size) where
 
   pub planes-short : (planes out : ℕ) → planes < size / 6 * 4 → Refused truncated ≡ verdict (convertChecks w rows planes out)
   planes-short planes out h =
-      let a : rows * (6 * w) ≤ 18446744073709551615 = k .small in
+      let a : rows * (6 * w) ≤ most64 = k .small in
       let b : planes < rows * (4 * w) = omega (arith, planes-size) in
       search verdicts
 
   module _ (planes out : ℕ) (fits : size / 6 * 4 ≤ planes) where
     pub out-short : out < size → Refused outputTooSmall ≡ verdict (convertChecks w rows planes out)
     out-short h =
-        let a : rows * (6 * w) ≤ 18446744073709551615 = k .small in
+        let a : rows * (6 * w) ≤ most64 = k .small in
         let b : rows * (4 * w) ≤ planes = omega (arith, planes-size) in
         let d : out < rows * (6 * w) = omega (arith, k .is) in
         search verdicts
@@ -107,7 +79,7 @@ module _ (w rows size : ℕ) (k : Known (rows * (6 * w)) size) where
     module _ (room : size ≤ out) where
       pub both-fine : Fine ≡ verdict (convertChecks w rows planes out)
       both-fine =
-          let a : rows * (6 * w) ≤ 18446744073709551615 = k .small in
+          let a : rows * (6 * w) ≤ most64 = k .small in
           let b : rows * (4 * w) ≤ planes = omega (arith, planes-size) in
           let d : rows * (6 * w) ≤ out = omega (arith, k .is) in
           search verdicts
@@ -117,5 +89,3 @@ module _ (w rows size : ℕ) (k : Known (rows * (6 * w)) size) where
           let r : rows ≡ 0 → ⊥ = λ z. some (k .is ∙ rw (z, zero-mul)) in
           let m : 1 * (6 * w) ≤ rows * (6 * w) = mul-le-mul-right (6 * w) (omega arith) in
           record { planes-in = omega (arith, planes-size); pixels-in = omega (arith, k .is); small = omega (arith, k .small) }
-
-pub ruleset row = (row-none, joining-fits, row-more, row-all, needs)

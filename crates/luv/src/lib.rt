@@ -1,4 +1,4 @@
-// Luv samples: uv, one pixel, a row of pixels and all rows of a segment. Nothing else computes uv.
+// Rows of pixels: all rows of a segment put into a picture, and planes converted into a lent buffer.
 use checks::LIMIT;
 use checks::OUTPUT_TOO_SMALL;
 use checks::Size;
@@ -10,55 +10,9 @@ ghost use lib.ListN.{length};
 ghost use Rattle.lists.specs.Lists.{overlay, spread};
 ghost use Rattle.checks.specs.Checks.{verdict};
 ghost use Rattle.checks.specs.Buffers.{afterwards};
-ghost use Rattle.luv.specs.Luv.{uv, pixel, rowPixels, pixels, rowShown, Roomy, Scatterable, convertChecks};
-
-fn wide(x: u8) -> u32
-    ensures { λ r. ⌜ (r ≡ x) × (r < 256) ⌝ }
-{
-    x as u32
-}
-
-pub fn expand_uv(x: u8) -> u16
-    ensures { λ r. ⌜ r ≡ uv x ⌝ }
-{
-    let n = wide(x);
-    ((2 * n + 1) * 8192 / 205) as u16
-}
-
-fn put_pixel(d: &mut [u8], high: u8, low: u8, u: u8, v: u8)
-    requires { ⌜ length (now d) ≡ 6 ⌝ }
-    ensures { λ _. ⌜ now (d .exit) ≡ pixel high low u v ⌝ }
-{
-    let a = expand_uv(u);
-    let b = expand_uv(v);
-    d[0] = low;
-    d[1] = high;
-    d[2] = (a % 256) as u8;
-    d[3] = (a / 256) as u8;
-    d[4] = (b % 256) as u8;
-    d[5] = (b / 256) as u8;
-}
-
-// The first n pixels of a row of four planes of w bytes.
-fn convert_row(planes: &[u8], w: usize, n: usize, out: &mut [u8])
-    requires { ⌜ (4 * w ≤ length (now planes)) × (n ≤ w) × (length (now out) ≡ 6 * n) ⌝ }
-    ensures { λ _. ⌜ now (out .exit) ≡ rowPixels w n (now (planes .entry)) ⌝ }
-{
-    let mut i: usize = 0;
-    let mut o: usize = 0;
-    while i < n {
-        let e = o + 6;
-        put_pixel(
-            &mut out[o..e],
-            planes[i],
-            planes[w + i],
-            planes[2 * w + i],
-            planes[3 * w + i],
-        );
-        i += 1;
-        o = e;
-    }
-}
+ghost use Rattle.pixel.specs.Luv.{pixels, rowShown};
+ghost use Rattle.luv.specs.Convert.{convertChecks};
+ghost use Rattle.luv.specs.Inner.{Roomy, Scatterable};
 
 // The first n pixels of each of so many rows of planes of width w, put into the picture: the first row at `first`, each further
 // one a pitch later.
@@ -82,7 +36,7 @@ pub fn scatter(
     while r < rows {
         let from_end = from + from_step;
         let end = at + size;
-        convert_row(&planes[from..from_end], w, n, &mut out[at..end]);
+        pixel::convert_row(&planes[from..from_end], w, n, &mut out[at..end]);
         from += from_step;
         at += pitch;
         r += 1;
@@ -101,7 +55,7 @@ fn convert_rows(planes: &[u8], w: usize, rows: usize, out: &mut [u8])
     while r < rows {
         let from_end = from + from_step;
         let to_end = to + to_step;
-        convert_row(&planes[from..from_end], w, w, &mut out[to..to_end]);
+        pixel::convert_row(&planes[from..from_end], w, w, &mut out[to..to_end]);
         from = from_end;
         to = to_end;
         r += 1;

@@ -36,6 +36,8 @@ module _ (row ch : ℕ) (raw : List ℕ) (whole : length raw / row * row ≡ len
       → getD (gathered row ch bytes little raw) (r * row + k) 0 ≡ getD (summed row ch raw) (r * row + source little bytes row k) 0
   unfolding gathered gatheredRow
   gathered-at bytes little p e =
-      perRow-at _ row row _ (summed row ch raw) (omega (arith, summed-length row ch raw whole)) (λ xs l. gatheredRow-length row bytes little xs) r k in-rows in-row ∙ getD-tabulate _ row k in-row
+      let room = summed-length row ch raw whole in
+      perRow-at _ row row _ (summed row ch raw) (omega (arith, room)) (λ xs l. gatheredRow-length row bytes little xs) r k in-rows in-row
+      ∙ getD-tabulate _ row k in-row
       ∙ getD-take row (drop (r * row) (summed row ch raw)) (source little bytes row k) 0 (source-in little bytes row k p e in-row)
       ∙ getD-drop (r * row) (summed row ch raw) (source little bytes row k) 0

@@ -1,1 +1,2 @@
 pub mod NativeFp
+pub mod Inner

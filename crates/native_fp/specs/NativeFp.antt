@@ -1,6 +1,5 @@
 -- Predictor 3, by TIFF Technical Note 3: bytes summed along each row at the distance of the channels, then planes gathered into samples.
-use Prim.Native.Nat.{ℕ, _+_, _-_, _*_, _/_, _%_, _<_, _≤_}
-use mathlib.Core.Path.{_≡_}
+use Prim.Native.Nat.{ℕ, _+_, _-_, _*_, _/_, _%_}
 use mathlib.Core.List.{List, [], _∷_}
 use mathlib.Core.Bool.{Bool, true}
 use lib.ListN.{length, getD}
@@ -38,14 +37,3 @@ fpChecks row ch bytes raw scratch out =
     must (ltb 0 ch) unsupported ∷ must (leb ch 64) unsupported ∷ must (ltb 0 row) unsupported ∷
     must (eqb (row % (ch * bytes)) 0) invalid ∷ must (eqb (raw % row) 0) invalid ∷
     must (leb raw out) outputTooSmall ∷ must (leb raw scratch) outputTooSmall ∷ []
-
--- what they leave for the work
-pub record Sized (row ch bytes raw scratch out : ℕ) : Type 0 where
-  pub some : 0 < row
-  pub channels : 0 < ch
-  pub narrow : ch ≤ row
-  pub parts : 0 < bytes
-  pub samples : row % bytes ≡ 0
-  pub whole : raw / row * row ≡ raw
-  pub room : raw ≤ out
-  pub space : raw ≤ scratch

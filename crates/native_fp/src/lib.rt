@@ -9,7 +9,8 @@ ghost use lib.ListN.{length};
 ghost use Rattle.lists.specs.Lists.{perRow, overlay};
 ghost use Rattle.checks.specs.Checks.{verdict};
 ghost use Rattle.checks.specs.Buffers.{afterwards};
-ghost use Rattle.native_fp.specs.NativeFp.{summedRow, plane, gatheredRow, summed, gathered, sampleBytes, fpChecks, Sized};
+ghost use Rattle.native_fp.specs.NativeFp.{summedRow, plane, gatheredRow, summed, gathered, sampleBytes, fpChecks};
+ghost use Rattle.native_fp.specs.Inner.{Sized};
 
 // A row's bytes, each with the one a channel's distance before it added.
 fn sum_row(raw: &[u8], ch: usize, out: &mut [u8])

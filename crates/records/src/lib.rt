@@ -26,7 +26,7 @@ fn read(file: &[u8], at: usize) -> usize
     requires { ⌜ There (seen (now file) []) at 8 ⌝ }
     ensures { λ r. ⌜ r ≡ eight (seen (now (file .entry)) []) at ⌝ }
 {
-    seen::word4(file, b"", false, at) + 4294967296 * seen::word4(file, b"", false, at + 4)
+    words::word4(file, b"", false, at) + 4294967296 * words::word4(file, b"", false, at + 4)
 }
 
 // The number at a place, or 0 where the file ends before it does.

@@ -19,7 +19,8 @@ made : ℕ → (ℕ → Bool) → (ℕ → ℕ) → Seen
 made n c b = record { size = n; came = c; byte = b }
 
 -- outside the file both read as 0; inside, a byte that came is equal in both
-same-byte : (f g map : List ℕ) → Agree f g map → (i : ℕ) (t : Bool) → ltb i (length g) ≡ t → pick (cameIn (length g) map i) (getD f i 0) 0 ≡ pick (cameIn (length g) map i) (getD g i 0) 0
+same-byte : (f g map : List ℕ) → Agree f g map → (i : ℕ) (t : Bool) → ltb i (length g) ≡ t
+    → pick (cameIn (length g) map i) (getD f i 0) 0 ≡ pick (cameIn (length g) map i) (getD g i 0) 0
 unfolding cameIn
 same-byte f g map a i true t = rw t (masked (arrived map i) (getD f i 0) (getD g i 0) (a .where-came i (ltb-true i (length g) t)))
 same-byte f g map a i false t =
@@ -38,7 +39,8 @@ alike f g map a =
 pub same-outcome : {X : Type 0} (outcome : Seen → X) (f g map : List ℕ) → Agree f g map → outcome (seen f map) ≡ outcome (seen g map)
 same-outcome outcome f g map a = ap outcome (alike f g map a)
 
-came-same : (f map : List ℕ) (i : ℕ) (b : Bool) → ltb i (length f) ≡ b → (i < length f → arrived map i ≡ true) → cameIn (length f) map i ≡ cameIn (length f) [] i
+came-same : (f map : List ℕ) (i : ℕ) (b : Bool) → ltb i (length f) ≡ b → (i < length f → arrived map i ≡ true)
+    → cameIn (length f) map i ≡ cameIn (length f) [] i
 unfolding cameIn arrived
 came-same f map i true e h = rw (e, h (ltb-true i (length f) e))
 came-same f map i false e h = rw e

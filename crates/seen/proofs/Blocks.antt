@@ -11,11 +11,11 @@ use lib.Dec.{leb, eqb}
 use borrow.Author.Needs.{needs}
 use borrow.Author.Tests.{lt-ltb, le-leb, lt-leb, eq-eqb, ne-eqb, eqb-true, eqb-false, leb-true, leb-false, not-true, not-false}
 use Rattle.lists.specs.Lists.{pick}
-use Rattle.checks.specs.Numbers.{truncated, notArrived}
+use Rattle.checks.specs.Numbers.{truncated, notArrived, verdictNumber}
 use Rattle.checks.specs.Checks.{verdict}
 use Rattle.checks.specs.declared.Verdict.{Verdict}
 use Rattle.checks.specs.declared.Verdict.the-variants as verdict-is
-use Rattle.seen.specs.Seen.{Seen, seen, blockCame, arrived, cameIn, whole, inside, reachOf, there}
+use Rattle.seen.specs.Seen.{Seen, seen, blockCame, arrived, cameIn, whole, inside, reachOf, reachNumber, there}
 use Rattle.seen.specs.declared.Reach.{Reach}
 use Rattle.seen.specs.declared.Reach.the-variants.{Inside, Outside, Missing}
 
@@ -90,11 +90,16 @@ module _ (map : List ℕ) (start end last b : ℕ) (s : Blocks map start b) (som
 
       by : (t : Bool) → leb start (512 * b) ≡ t → whole (arrived map) start (end - start) ≡ false
       by true t = whole-no (arrived map) (end - start) start (512 * b) (leb-true start (512 * b) t) (omega arith) (off (512 * b) (omega arith))
-      by false t = whole-no (arrived map) (end - start) start start (omega arith) (omega arith) (off start (omega (arith, leb-false start (512 * b) t, s .from-start)))
+      by false t =
+          let e : start / 512 ≡ b = omega (arith, leb-false start (512 * b) t, s .from-start) in
+          whole-no (arrived map) (end - start) start start (omega arith) (omega arith) (off start e)
 
   pub blocks-done : last < b → true ≡ whole (arrived map) start (end - start)
   unfolding arrived
-  blocks-done h = sym (whole-yes (arrived map) (end - start) start (λ i x y. simp (ne-eqb _ _ (λ (z : length map ≡ 0). omega arith), s .all (i / 512) (omega arith) (omega arith))))
+  blocks-done h = sym (whole-yes (arrived map) (end - start) start came)
+    where
+      came : (i : ℕ) → start ≤ i → i < start + (end - start) → arrived map i ≡ true
+      came i x y = simp (ne-eqb _ _ (λ (z : length map ≡ 0). omega arith), s .all (i / 512) (omega arith) (omega arith))
 
 -- `reachOf`, test by test
 module _ (file map : List ℕ) (start n : ℕ) where
@@ -111,8 +116,11 @@ module _ (file map : List ℕ) (start n : ℕ) where
       asked : (w : Bool) → whole (arrived map) start n ≡ w → pick w Inside Missing ≡ reachOf (seen file map) start n
       unfolding reachOf inside cameIn
       asked w e =
-          let q : whole (cameIn (length file) map) start n ≡ w = whole-same (cameIn (length file) map) (arrived map) n start (λ i x y. let l : i < length file = omega arith in simp (lt-ltb i (length file) l)) ∙ e in
+          let q : whole (cameIn (length file) map) start n ≡ w = whole-same (cameIn (length file) map) (arrived map) n start in-file ∙ e in
           simp (le-leb _ _ a, le-leb _ _ b, q)
+        where
+          in-file : (i : ℕ) → start ≤ i → i < start + n → cameIn (length file) map i ≡ arrived map i
+          in-file i x y = let l : i < length file = omega arith in simp (lt-ltb i (length file) l)
 
       pub no-bytes : n ≡ 0 → Inside ≡ reachOf (seen file map) start n
       no-bytes z = asked true (whole-yes (arrived map) n start (λ i x y. absurd (omega arith)))
@@ -138,10 +146,21 @@ module _ (v : Seen) (start n : ℕ) {r : Reach} (e : r ≡ reachOf v start n) wh
   unfolding verdict reachOf tellOf
   tells = ap tellOf e ∙ by (inside (v .size) start n) (whole (v .came) start n)
     where
-      by : (b w : Bool) → tellOf (pick b (pick w Inside Missing) Outside) ≡ pick b (pick w verdict-is.Fine (verdict-is.Refused notArrived)) (verdict-is.Refused truncated)
+      by : (b w : Bool) → tellOf (pick b (pick w Inside Missing) Outside)
+          ≡ pick b (pick w verdict-is.Fine (verdict-is.Refused notArrived)) (verdict-is.Refused truncated)
       by true true = refl
       by true false = refl
       by false w = refl
+
+  -- the check refuses with the number that the answer stands for
+  pub need-number : verdictNumber (verdict (there v start n)) ≡ reachNumber r
+  unfolding tellOf
+  need-number = ap verdictNumber (sym tells) ∙ by r
+    where
+      by : (s : Reach) → verdictNumber (tellOf s) ≡ reachNumber s
+      by Inside = refl
+      by Outside = refl
+      by Missing = refl
 
   pub need-inside : r ≡ Inside → verdict-is.Fine ≡ verdict (there v start n)
   unfolding tellOf

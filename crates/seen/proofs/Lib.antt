@@ -2,3 +2,4 @@ pub mod Blocks
 pub mod Words
 pub mod Alike
 pub mod Maps
+pub mod Own

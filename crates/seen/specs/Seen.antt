@@ -59,7 +59,13 @@ inside size start n = pick (leb start size) (leb n (size - start)) false
 unfoldable pub reachOf : Seen → ℕ → ℕ → Reach
 reachOf v start n = pick (inside (v .size) start n) (pick (whole (v .came) start n) Inside Missing) Outside
 
--- n bytes from start are needed: outside 1, then not arrived 8
+-- the number that it stands for: outside 1, not arrived 8
+abbrev pub reachNumber : Reach → ℕ
+reachNumber Inside = 0
+reachNumber Outside = truncated
+reachNumber Missing = notArrived
+
+-- n bytes from start are needed: outside the file is refused first
 abbrev pub there : Seen → ℕ → ℕ → List Check
 there v start n = must (inside (v .size) start n) truncated ∷ must (whole (v .came) start n) notArrived ∷ []
 

@@ -1,10 +1,10 @@
-// What is seen of a file under a delivery map: whether bytes lie in the file and came, and the words that they make.
+// What is seen of a file under a delivery map: whether bytes lie in the file and came, and whether a map has the length that a file asks for.
 use checks::Verdict;
 ghost use mathlib.Core.Path.{_≡_};
 ghost use Prim.Native.Nat.{_-_, _<_};
 ghost use lib.ListN.{length};
 ghost use Rattle.checks.specs.Checks.{verdict};
-ghost use Rattle.seen.specs.Seen.{seen, mapChecks, blockCame, arrived, whole, reachOf, there, There, two, four};
+ghost use Rattle.seen.specs.Seen.{seen, mapChecks, blockCame, arrived, whole, reachOf, there};
 
 // Where the bytes asked for are: in the file and arrived, not all in the file, or in it and not all arrived.
 pub enum Reach {
@@ -87,31 +87,4 @@ pub fn check_map(file: &[u8], map: &[u8]) -> Verdict
     } else {
         Verdict::Refused(checks::MAP_SIZE)
     }
-}
-
-fn wide(x: u8) -> usize
-    ensures { λ r. ⌜ (r ≡ x) × (r < 256) ⌝ }
-{
-    x as usize
-}
-
-// The word of two bytes at a place where they are.
-pub fn word2(file: &[u8], map: &[u8], big: bool, at: usize) -> usize
-    requires { ⌜ There (seen (now file) (now map)) at 2 ⌝ }
-    ensures { λ r. ⌜ (r ≡ two big (seen (now (file .entry)) (now (map .entry))) at) × (r < 65536) ⌝ }
-{
-    let a = wide(file[at]);
-    let next = at + 1;
-    let b = wide(file[next]);
-    if big { a * 256 + b } else { a + b * 256 }
-}
-
-// The word of four bytes at a place where they are.
-pub fn word4(file: &[u8], map: &[u8], big: bool, at: usize) -> usize
-    requires { ⌜ There (seen (now file) (now map)) at 4 ⌝ }
-    ensures { λ r. ⌜ (r ≡ four big (seen (now (file .entry)) (now (map .entry))) at) × (r < 4294967296) ⌝ }
-{
-    let a = word2(file, map, big, at);
-    let b = word2(file, map, big, at + 2);
-    if big { a * 65536 + b } else { a + b * 65536 }
 }

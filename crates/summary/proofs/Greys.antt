@@ -7,7 +7,7 @@ use lib.ListN.{getD}
 use borrow.Author.Tests.{lt-ltb, le-ltb}
 use Rattle.lists.specs.Lists.{lesser}
 use Rattle.lists.proofs.Lesser.{lesser-second}
-use Rattle.checks.specs.Sizes.{within}
+use Rattle.checks.specs.Sizes.{within, most64}
 use Rattle.checks.specs.declared.Size.{Size}
 use Rattle.checks.specs.declared.Size.the-variants.{Fits, Over}
 use Rattle.checks.proofs.Sizes.{fits-is, over-is}
@@ -33,7 +33,7 @@ module _ {s : Size} (a b most : ℕ) (e : s ≡ within (a * b)) where
   pub pixels-known : (n : ℕ) {r : ℕ} → s ≡ Fits n → r ≡ lesser n most → r ≡ lesser (a * b) most
   pixels-known n q l = l ∙ rw (fits-is (a * b) n e q .is)
 
-  pub pixels-over : s ≡ Over → most ≤ 18446744073709551615 → most ≡ lesser (a * b) most
+  pub pixels-over : s ≡ Over → most ≤ most64 → most ≡ lesser (a * b) most
   pixels-over q h = lesser-second (a * b) most (omega (arith, over-is (a * b) e q))
 
 pub ruleset greys = (grey-light, grey-black, grey-read, pixels-known, filled)

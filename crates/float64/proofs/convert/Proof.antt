@@ -1,26 +1,25 @@
 -- Each check in its order; the size by two products; then every row.
 use mathlib.Core.Path.{refl}
-use Rattle.checks.proofs.Rules.{verdicts}
-use Rattle.float64.proofs.Accepted.{row-too-large, too-large, raw-short, out-short, accepted, fitting}
+use Rattle.float64.proofs.Accepted.{no-channel, many-channels, no-width, no-height, no-reset, row-too-large, too-large, raw-short, out-short, accepted, fitting}
 use native.Mathlib.Omega.{arith}
 use borrow.Author.Needs.{needs}
 use Rattle.float64.proofs.convert.Statement.{statement}
 use Rattle.float64.proofs.convert.Tie as tie
 
 returns : tie.Need-returns
-returns c = (search verdicts depth 10, refl)
+returns c = (search no-channel, refl)
 
 returns-2 : tie.Need-returns-2
-returns-2 c = (search verdicts depth 10, refl)
+returns-2 c = (search many-channels, refl)
 
 returns-3 : tie.Need-returns-3
-returns-3 c = (search verdicts depth 10, refl)
+returns-3 c = (search no-width, refl)
 
 returns-4 : tie.Need-returns-4
-returns-4 c = (search verdicts depth 10, refl)
+returns-4 c = (search no-height, refl)
 
 returns-5 : tie.Need-returns-5
-returns-5 c = (search verdicts depth 10, refl)
+returns-5 c = (search no-reset, refl)
 
 mul-product : tie.Need-mul-product
 mul-product c = search needs
@@ -57,8 +56,10 @@ returns-9 c = (search out-short, refl)
 
 convert-rows-requires : tie.Need-convert-rows-requires
 convert-rows-requires c κs =
-    fitting _ _ _ _ _ _ (search needs) (omega arith) (search needs) (search needs) (search needs) _ (c .before .before .before .before .before .before .before .before .before .before .product .ensures) _ (c .before .before .before .before .before .before .before .before .row .given .1) _
-    (c .before .before .before .before .before .before .product2 .ensures) _ (c .before .before .before .before .size .given .1) (omega arith) (omega arith)
+    let a = c .before .before .before .before in
+    let b = a .before .before .before .before in
+    fitting _ _ _ _ _ _ (search needs) (omega arith) (search needs) (search needs) (search needs) _ (b .before .before .product .ensures) _ (b .row .given .1)
+    _ (a .before .before .product2 .ensures) _ (a .size .given .1) (omega arith) (omega arith)
 
 same-length : tie.Need-same-length
 same-length c = search needs

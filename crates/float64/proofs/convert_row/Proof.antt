@@ -68,8 +68,12 @@ loop-less c = search needs
 
 loop-again : tie.Need-loop-again Inv-loop μ-loop
 loop-again c =
-    sampling-more _ _ _ _ _ _ _ _ _ _ _ _ (c .before .before .before .before .before .before .before .before .before .before .before .loop .inv) (c .before .before .before .before .before .before .before .before .before .before .loop-test .taken) _ _ _ _ _
-    (c .before .before .before .before .before .before .before .before .load .ensures) (c .before .before .before .before .before .before .before .before .load .ok) (c .before .before .before .before .before .sum-at .ensures) (c .before .before .before .store .ensures) (c .after .ensures)
+    let a = c .before .before .before in
+    let b = a .before .before in
+    let d = b .before .before .before in
+    let e = d .before .before in
+    sampling-more _ _ _ _ _ _ _ _ _ _ _ _ (e .before .loop .inv) (e .loop-test .taken) _ _ _ _ _ (d .load .ensures) (d .load .ok) (b .sum-at .ensures)
+    (a .store .ensures) (c .after .ensures)
 
 same-length : tie.Need-same-length Inv-loop μ-loop
 same-length c = search needs

@@ -1,5 +1,5 @@
 -- Each arm goes on from the verdict of the range; a refusal touches nothing.
-use Rattle.logluv.proofs.Laws.{ranged}
+use Rattle.logluv.proofs.Ranges.{ranged}
 use Rattle.checks.proofs.Rules.{verdict-calls}
 use mathlib.Core.Path.{refl}
 use borrow.Author.Needs.{needs}

@@ -1,5 +1,5 @@
 -- The part that is lent is the range.
-use Rattle.logluv.proofs.Laws.{ranged-part, ranged-wrote}
+use Rattle.logluv.proofs.Ranges.{ranged-part, ranged-wrote}
 use borrow.Author.Needs.{needs}
 use Rattle.logluv.proofs.expand_range.Statement.{statement}
 use Rattle.logluv.proofs.expand_range.Tie as tie

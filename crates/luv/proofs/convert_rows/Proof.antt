@@ -1,6 +1,6 @@
 -- Each turn joins the pixels of one row to those so far.
 use Rattle.luv.proofs.Pixels.{rows-more, rows-all}
-use Rattle.luv.specs.Luv.{rowPixels}
+use Rattle.pixel.specs.Luv.{rowPixels}
 use Rattle.lists.proofs.Rows.{Rowing, rows}
 use Prim.Native.Nat.{_-_, _*_}
 use borrow.Author.Needs.{needs}

@@ -38,7 +38,10 @@ add-b : tie.Need-add-b Inv-loop μ-loop
 add-b c = search needs
 
 add-s : tie.Need-add-s Inv-loop μ-loop
-add-s c = let h = gathering-in _ _ _ _ _ _ _ _ _ (c .before .before .before .before .loop .inv) (c .before .before .plane-of .result) (search needs) (search needs) in omega arith
+add-s c =
+    let b = c .before .before in
+    let h = gathering-in _ _ _ _ _ _ _ _ _ (b .before .before .loop .inv) (b .plane-of .result) (search needs) (search needs) in
+    omega arith
 
 loop-less : tie.Need-loop-less Inv-loop μ-loop
 loop-less c = search needs

@@ -35,7 +35,9 @@ loop-less : tie.Need-loop-less Inv-loop μ-loop Inv-loop2 μ-loop2
 loop-less c = search needs
 
 loop-again : tie.Need-loop-again Inv-loop μ-loop Inv-loop2 μ-loop2
-loop-again c = (summing-first _ _ _ _ _ (c .before .before .loop .inv .0) (search needs) (search needs) (omega (arith, c .shared-slice-known2 .given (c .before .before .loop .i))), search needs)
+loop-again c =
+    let l = c .before .before .loop in
+    (summing-first _ _ _ _ _ (l .inv .0) (search needs) (search needs) (omega (arith, c .shared-slice-known2 .given (l .i))), search needs)
 
 loop2-holds : tie.Need-loop2-holds Inv-loop μ-loop Inv-loop2 μ-loop2
 loop2-holds c = (search sums, search needs)

@@ -1,6 +1,6 @@
 -- An empty packet gives nothing, so what is ahead stays the same until one has a byte.
 use mathlib.Core.Path.{_∙_}
-use Rattle.logluv.specs.Ahead.{ahead, Sound}
+use Rattle.logluv.specs.Inner.{ahead, SoundCursor}
 use lib.ListN.{length}
 use mathlib.Core.Path.{_≡_}
 use Prim.Native.Nat.{_-_, _<_}
@@ -9,7 +9,7 @@ use Rattle.logluv.proofs.Cursor.ready.Statement.{statement}
 use Rattle.logluv.proofs.Cursor.ready.Tie as tie
 
 abbrev Inv-loop : tie.InvT-loop
-Inv-loop p c₀ c = Sound p c × (ahead p c ≡ ahead p c₀) × (0 < length (ahead p c))
+Inv-loop p c₀ c = SoundCursor p c × (ahead p c ≡ ahead p c₀) × (0 < length (ahead p c))
 
 abbrev μ-loop : tie.MeasureT-loop
 μ-loop p c₀ c = length p - c .at
@@ -24,7 +24,10 @@ loop-less : tie.Need-loop-less Inv-loop μ-loop
 loop-less c = search needs
 
 loop-again : tie.Need-loop-again Inv-loop μ-loop
-loop-again c = (c .next-packet .ensures .sound, c .next-packet .ensures .same ∙ c .before .before .before .loop .inv .1, rw (c .next-packet .ensures .same) (c .before .before .before .loop .inv .2))
+loop-again c =
+    let so = c .before .before .before .loop .inv in
+    let next = c .next-packet .ensures in
+    (next .sound, next .same ∙ so .1, rw (next .same) (so .2))
 
 returns : tie.Need-returns Inv-loop μ-loop
 returns c = search needs

@@ -1,0 +1,4 @@
+pub mod Laws
+pub mod Expand
+pub mod Index
+pub mod Filling
