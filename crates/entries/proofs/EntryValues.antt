@@ -10,7 +10,7 @@ use mir.Val.{Fits}
 use borrow.Author.Needs.{needs}
 use borrow.Author.Tests.{eq-eqb, ne-eqb}
 use Rattle.lists.specs.Lists.{pick}
-use Rattle.checks.specs.Numbers.{truncated, notArrived}
+use Rattle.checks.specs.Numbers.{truncated, notArrived, verdictNumber}
 use Rattle.checks.specs.Checks.{verdict}
 use Rattle.checks.specs.declared.Verdict.{Verdict}
 use Rattle.checks.specs.declared.Verdict.the-variants as verdict-is
@@ -19,7 +19,8 @@ use Rattle.seen.specs.declared.Reach.{Reach}
 use Rattle.seen.specs.declared.Reach.the-variants as reach-is
 use Rattle.seen.proofs.Blocks.{need-inside, need-outside, need-missing}
 use Rattle.seen.proofs.Words.{there-part, inside-there}
-use Rattle.entries.specs.Values.{countAt, numeric, hasValues, sizeOf, wordAt, inField, placeOf, valueAt, valueIs, WordThere}
+use Rattle.entries.specs.Values.{countAt, numeric, hasValues, sizeOf, wordAt, inField, placeOf, valueAt, valueIs, valueNumber}
+use Rattle.entries.specs.Inner.{WordThere}
 use Rattle.tiff.proofs.Entries.{type-there}
 use Rattle.entries.specs.declared.Value.{Value}
 use Rattle.entries.specs.declared.Value.the-variants.{Outside, Missing, Number}
@@ -139,7 +140,8 @@ valueVerdict Missing = verdict-is.Refused notArrived
 valueVerdict (Number n) = verdict-is.Fine
 
 module _ (v : Seen) (big : Bool) (e i : ℕ) where
-  by-reach : (q : Reach) → reachOf v (placeOf v big e i) (sizeOf v big e) ≡ q → verdict (there v (placeOf v big e i) (sizeOf v big e)) ≡ valueVerdict (valueIs v big e i)
+  by-reach : (q : Reach) → reachOf v (placeOf v big e i) (sizeOf v big e) ≡ q
+      → verdict (there v (placeOf v big e i) (sizeOf v big e)) ≡ valueVerdict (valueIs v big e i)
   unfolding valueIs
   by-reach reach-is.Outside t = rw t (sym (need-outside v (placeOf v big e i) (sizeOf v big e) refl t))
   by-reach reach-is.Missing t = rw t (sym (need-missing v (placeOf v big e i) (sizeOf v big e) refl t))
@@ -155,6 +157,15 @@ module _ (v : Seen) (big : Bool) (e i : ℕ) where
     pub value-verdict : verdict (there v (placeOf v big e i) (sizeOf v big e)) ≡ valueVerdict r
     value-verdict = by-reach (reachOf v (placeOf v big e i) (sizeOf v big e)) refl ∙ ap valueVerdict (sym er)
 
+    -- so its number is that of the check
+    pub value-told : valueNumber r ≡ verdictNumber (verdict (there v (placeOf v big e i) (sizeOf v big e)))
+    value-told = numbered r ∙ ap verdictNumber (sym value-verdict)
+      where
+        numbered : (x : Value) → valueNumber x ≡ verdictNumber (valueVerdict x)
+        numbered Outside = refl
+        numbered Missing = refl
+        numbered (Number n) = refl
+
     pub value-is : (x : ℕ) → r ≡ Number x → x ≡ valueAt v big e i
     value-is x q = number x (reachOf v (placeOf v big e i) (sizeOf v big e)) refl (sym er ∙ q)
 
@@ -169,6 +180,22 @@ module _ (size i : ℕ) (small : size < 5) (some : i < 4294967296) where
   pub placed-fits : (start : ℕ) → start < 2 ^ 63 → Fits w64 (start + size * i)
   placed-fits start low = record { fits = omega (arith, scaled-small) }
 
-pub ruleset entries = (type-there, count-there, field-there, numeric-three, numeric-else, size-three, size-else, as-many, not-as-many, two-there, four-there, word-two, word-four, scalar-there, needs)
+pub ruleset entries = (
+  type-there,
+  count-there,
+  field-there,
+  numeric-three,
+  numeric-else,
+  size-three,
+  size-else,
+  as-many,
+  not-as-many,
+  two-there,
+  four-there,
+  word-two,
+  word-four,
+  scalar-there,
+  needs,
+)
 
 pub ruleset places = (field-there, place-one, place-else, value-outside, value-missing, value-there, value-number, needs)

@@ -3,7 +3,8 @@ use Prim.Native.Nat.{ℕ, _+_, _*_}
 use mathlib.Core.Bool.{Bool, _&&_, _||_}
 use lib.Dec.{eqb}
 use Rattle.lists.specs.Lists.{pick}
-use Rattle.seen.specs.Seen.{Seen, There, two, four, reachOf}
+use Rattle.checks.specs.Numbers.{truncated, notArrived}
+use Rattle.seen.specs.Seen.{Seen, two, four, reachOf}
 use Rattle.seen.specs.declared.Reach.{Reach}
 use Rattle.seen.specs.declared.Reach.the-variants as reach-is
 use Rattle.tiff.specs.Directory.{typeAt}
@@ -42,14 +43,16 @@ module _ (v : Seen) (big : Bool) (e : ℕ) where
   abbrev pub valueAt : ℕ → ℕ
   valueAt i = wordAt (placeOf i)
 
-  abbrev found : Reach → ℕ → Value
-  found reach-is.Outside n = Outside
-  found reach-is.Missing n = Missing
-  found reach-is.Inside n = Number n
+  abbrev valueWhere : Reach → ℕ → Value
+  valueWhere reach-is.Outside n = Outside
+  valueWhere reach-is.Missing n = Missing
+  valueWhere reach-is.Inside n = Number n
 
   unfoldable pub valueIs : ℕ → Value
-  valueIs i = found (reachOf v (placeOf i) sizeOf) (valueAt i)
+  valueIs i = valueWhere (reachOf v (placeOf i) sizeOf) (valueAt i)
 
-  pub record WordThere (p : ℕ) : Type 0 where
-    pub entry : There v e 12
-    pub word : There v p sizeOf
+-- the number of what is not given: bytes outside the file, or not arrived; 0 where there is a number
+abbrev pub valueNumber : Value → ℕ
+valueNumber Outside = truncated
+valueNumber Missing = notArrived
+valueNumber (Number n) = 0

@@ -3,7 +3,8 @@ use seen::Reach;
 ghost use mathlib.Core.Path.{_≡_};
 ghost use Prim.Native.Nat.{_<_};
 ghost use Rattle.seen.specs.Seen.{seen, There};
-ghost use Rattle.entries.specs.Values.{countAt, numeric, hasValues, sizeOf, placeOf, WordThere, wordAt, scalarOf, valueIs};
+ghost use Rattle.entries.specs.Values.{countAt, numeric, hasValues, sizeOf, placeOf, wordAt, scalarOf, valueIs};
+ghost use Rattle.entries.specs.Inner.{WordThere};
 
 // One value of an array: where it lies, or the number.
 pub enum Value {
@@ -17,7 +18,7 @@ fn is_numeric(file: &[u8], map: &[u8], big: bool, entry: usize) -> bool
     requires { ⌜ There (seen (now file) (now map)) entry 12 ⌝ }
     ensures { λ r. ⌜ r ≡ numeric (seen (now (file .entry)) (now (map .entry))) big entry ⌝ }
 {
-    let kind = seen::word2(file, map, big, entry + 2);
+    let kind = words::word2(file, map, big, entry + 2);
     if kind == 3 {
         return true;
     }
@@ -29,7 +30,7 @@ fn count_of(file: &[u8], map: &[u8], big: bool, entry: usize) -> usize
     requires { ⌜ There (seen (now file) (now map)) entry 12 ⌝ }
     ensures { λ r. ⌜ (r ≡ countAt (seen (now (file .entry)) (now (map .entry))) big entry) × (r < 4294967296) ⌝ }
 {
-    seen::word4(file, map, big, entry + 4)
+    words::word4(file, map, big, entry + 4)
 }
 
 // Whether it has n values of type 3 or 4.
@@ -48,7 +49,7 @@ fn size_of(file: &[u8], map: &[u8], big: bool, entry: usize) -> usize
     requires { ⌜ There (seen (now file) (now map)) entry 12 ⌝ }
     ensures { λ r. ⌜ (r ≡ sizeOf (seen (now (file .entry)) (now (map .entry))) big entry) × (r < 5) ⌝ }
 {
-    let kind = seen::word2(file, map, big, entry + 2);
+    let kind = words::word2(file, map, big, entry + 2);
     if kind == 3 { 2 } else { 4 }
 }
 
@@ -58,9 +59,9 @@ fn word_at(file: &[u8], map: &[u8], big: bool, entry: usize, at: usize) -> usize
     ensures { λ r. ⌜ (r ≡ wordAt (seen (now (file .entry)) (now (map .entry))) big entry at) × (r < 4294967296) ⌝ }
 {
     if size_of(file, map, big, entry) == 2 {
-        seen::word2(file, map, big, at)
+        words::word2(file, map, big, at)
     } else {
-        seen::word4(file, map, big, at)
+        words::word4(file, map, big, at)
     }
 }
 
@@ -82,7 +83,7 @@ fn place_of(file: &[u8], map: &[u8], big: bool, entry: usize, i: usize) -> usize
     if count == 1 {
         return entry + 8 + size * i;
     }
-    seen::word4(file, map, big, entry + 8) + size * i
+    words::word4(file, map, big, entry + 8) + size * i
 }
 
 // Value i, where it lies in the file and came.

@@ -4,7 +4,7 @@ use mathlib.Core.Path.{_≡_, refl}
 use mathlib.Core.List.{List, [], _∷_, _++_}
 use mathlib.Core.Bool.{Bool, true, false, _&&_}
 use native.Mathlib.Omega.{arith}
-use lib.ListN.{length, getD}
+use lib.ListN.{length}
 use lib.Dec.{ltb, leb, eqb}
 use borrow.Author.Tests.{ltb-true}
 use Rattle.checks.specs.Numbers.{truncated, invalid, unsupported, limit, pageNotFound, budget, notArrived}
@@ -14,14 +14,16 @@ use Rattle.checks.proofs.Exact.{never, never-both}
 use Rattle.seen.specs.Seen.{Seen, seen, arrived, whole, there, Agree}
 use Rattle.seen.proofs.Blocks.{true-false}
 use Rattle.seen.proofs.Alike.{same-outcome, came-whole, whole-came}
-use Rattle.tiff.specs.Header.{headerChecks, orderChecks, big, firstOf}
-use Rattle.tiff.specs.Directory.{entriesAt, slotsAt, nextAt, countChecks, charge, tagChecks, directoryChecks}
-use Rattle.tiff.specs.Walk.{walkChecks, pageAt}
+use Rattle.header.specs.Header.{headerChecks, orderChecks, bigEndian, firstOf}
+use Rattle.tiff.specs.Directory.{entriesAt, nextAt, countChecks, directoryFeeChecks, tagChecks, directoryChecks}
+use Rattle.tiff.specs.Walk.{walkChecks}
 use Rattle.entries.specs.Values.{sizeOf, placeOf, valueAt}
-use Rattle.tiff.specs.declared.Limits.{Limits}
-use Rattle.logluv_format.specs.Profile.{present, scalars, scalarChecks, numbersOf, kindChecks, plainChecks, numberChecks, eachIs, threeChecks, depthChecks, sampleChecks, shapeOf, sideChecks, tileChecks, stripChecks, layoutChecks, sizeChecks, listChecks, segmentChecks, blockChecks, profileChecks}
-use Rattle.front.specs.Front.{paidChecks, pageChecks, frontChecks, foundOf}
-use Rattle.logluv_format.specs.declared.scalars.Numbers.{Numbers}
+use Rattle.header.specs.declared.Limits.{Limits}
+use Rattle.tiff.specs.Slots.{bitsPerSample, tileOffsets, extraSamples, sampleFormat, entryIn, present}
+use Rattle.profile.specs.Profile.{scalars, scalarChecks, step1, step2, step3, eachIs, threeChecks, step4, step5, step6, step7, step8, numbersOf, shapeOf, shapeIn, profileChecks}
+use Rattle.profile.specs.Inner.{from7, from5, from2}
+use Rattle.profile.specs.declared.Numbers.{Numbers}
+use Rattle.front.specs.Front.{profileFee, slotsSeen, frontChecks, foundOf}
 
 -- a list that has no numbers but 1 to 7 cannot give any other
 usual : List Check → Bool
@@ -45,7 +47,8 @@ module _ (number : ℕ) (unusual : Unusual number) where
   usual-never [] h = tt
   usual-never (must b n ∷ cs) h = by (ltb 0 n) (ltb n notArrived) refl refl h (usual-never cs)
     where
-      by : (s t : Bool) → ltb 0 n ≡ s → ltb n notArrived ≡ t → s && t && usual cs ≡ true → (usual cs ≡ true → Never number cs) → (n ≡ number → b ≡ true) × Never number cs
+      by : (s t : Bool) → ltb 0 n ≡ s → ltb n notArrived ≡ t → s && t && usual cs ≡ true → (usual cs ≡ true → Never number cs)
+          → (n ≡ number → b ≡ true) × Never number cs
       by true true p q h k = (λ z. absurd (unusual n (ltb-true 0 n p) (ltb-true n notArrived q) z), k h)
       by true false p q h k = absurd (true-false h refl)
       by false t p q h k = absurd (true-false h refl)
@@ -70,16 +73,18 @@ module _ (number : ℕ) (unusual : Unusual number) where
       never-directory maxTags at =
           let count : List Check = must (ltb 0 (entriesAt v b at)) invalid ∷ must (leb (entriesAt v b at) maxTags) limit ∷ [] in
           let body : List Check = there v (at + 2) (12 * entriesAt v b at + 4) in
-          never-both number (countChecks v b maxTags at) (body ++ (charge v b at ++ tagChecks v b at))
+          let paid : List Check = directoryFeeChecks v b at ++ tagChecks v b at in
+          never-both number (countChecks v b maxTags at) (body ++ paid)
           (never-both number (there v at 2) count (never-there at 2) (usual-never count refl))
-          (never-both number body (charge v b at ++ tagChecks v b at) (never-there (at + 2) (12 * entriesAt v b at + 4)) (usual-never (charge v b at ++ tagChecks v b at) refl))
+          (never-both number body paid (never-there (at + 2) (12 * entriesAt v b at + 4)) (usual-never paid refl))
 
       never-walk : (maxTags page at : ℕ) → Never number (walkChecks v b maxTags page at)
       unfolding walkChecks Never
       never-walk maxTags zero at = (not-given pageNotFound (omega arith) (omega arith), never-directory maxTags at)
       never-walk maxTags (suc page) at = (
         not-given pageNotFound (omega arith) (omega arith),
-        never-both number (directoryChecks v b maxTags at) (walkChecks v b maxTags page (nextAt v b at)) (never-directory maxTags at) (never-walk maxTags page (nextAt v b at)),
+        never-both number (directoryChecks v b maxTags at) (walkChecks v b maxTags page (nextAt v b at)) (never-directory maxTags at)
+            (never-walk maxTags page (nextAt v b at)),
       )
 
       never-each : (e wanted i n : ℕ) → Never number (eachIs v b e wanted i n)
@@ -94,41 +99,54 @@ module _ (number : ℕ) (unusual : Unusual number) where
       unfolding threeChecks Never
       never-three e wanted = (not-given unsupported (omega arith) (omega arith), never-each e wanted 0 3)
 
-      module _ (entries : ℕ) (slots : List ℕ) (l : Limits) where
-        never-samples : (n : Numbers) → Never number (sampleChecks v b slots n (l .«max_dimension»))
-        unfolding sampleChecks numberChecks kindChecks plainChecks depthChecks usual
-        never-samples n =
-            let numbers : List Check = numberChecks n (getD slots 17 0) (l .«max_dimension») in
-            never-both number numbers (depthChecks v b slots) (usual-never numbers refl)
-            (never-both number (threeChecks v b (getD slots 2 0) 16) (threeChecks v b (getD slots 18 0) 2) (never-three (getD slots 2 0) 16) (never-three (getD slots 18 0) 2))
+      module _ (slots : List ℕ) (l : Limits) where
+        never-samples : Never number (step4 v b slots)
+        unfolding step4
+        never-samples =
+            let bits = entryIn slots bitsPerSample in
+            let formats = entryIn slots sampleFormat in
+            never-both number (threeChecks v b bits 16) (threeChecks v b formats 2) (never-three bits 16) (never-three formats 2)
 
-        usual-blocks : (n : Numbers) (t : Bool) → usual (layoutChecks (shapeOf n t) slots ++ segmentChecks v b entries slots (shapeOf n t) l) ≡ true
-        unfolding usual layoutChecks sideChecks tileChecks stripChecks segmentChecks sizeChecks listChecks shapeOf
+        usual-blocks : (n : Numbers) (t : Bool) → usual (from5 v b slots (shapeOf n t) l) ≡ true
+        unfolding usual from5 from7 step5 step6 step7 step8 shapeOf
         usual-blocks n true = refl
         usual-blocks n false = refl
 
-        never-profile : Never number (profileChecks v b entries slots l)
-        unfolding profileChecks scalarChecks scalars blockChecks usual
+        never-rest : (n : Numbers) → Never number (from2 v b slots n l)
+        unfolding from2 step2 step3 usual
+        never-rest n =
+            let two = step2 n (l .«max_dimension») in
+            let three = step3 n (entryIn slots extraSamples) in
+            let five = from5 v b slots (shapeIn slots n) l in
+            never-both number two (three ++ (step4 v b slots ++ five)) (usual-never two refl)
+            (never-both number three (step4 v b slots ++ five) (usual-never three refl)
+            (never-both number (step4 v b slots) five never-samples (usual-never five (usual-blocks n (present (entryIn slots tileOffsets))))))
+
+        never-profile : Never number (profileChecks v b slots l)
+        unfolding profileChecks from2 from5 from7 scalarChecks scalars usual
         never-profile =
             let n = numbersOf v b slots in
-            never-both number (scalarChecks v b slots scalars) (sampleChecks v b slots n (l .«max_dimension») ++ blockChecks v b entries slots n l)
-            (usual-never (scalarChecks v b slots scalars) refl)
-            (never-both number (sampleChecks v b slots n (l .«max_dimension»)) (blockChecks v b entries slots n l) (never-samples n) (usual-never (blockChecks v b entries slots n l) (usual-blocks n (present (getD slots 15 0)))))
+            never-both number (step1 v b slots) (from2 v b slots n l) (usual-never (step1 v b slots) refl) (never-rest n)
 
     pub never-front : (page : ℕ) (l : Limits) → Never number (frontChecks v page l)
-    unfolding frontChecks pageChecks paidChecks Never
+    unfolding frontChecks Never
     never-front page l =
-        let at : ℕ = pageAt v (big v) page (firstOf v) in
-        never-both number (headerChecks v) (pageChecks v (big v) (firstOf v) page l) never-header
-        (never-both number (walkChecks v (big v) (l .«max_tags») page (firstOf v)) (paidChecks v (big v) (entriesAt v (big v) at) (slotsAt v (big v) at) l) (never-walk (big v) (l .«max_tags») page (firstOf v)) (unusual budget (omega arith) (omega arith), never-profile (big v) (entriesAt v (big v) at) (slotsAt v (big v) at) l))
+        let big = bigEndian v in
+        let walk = walkChecks v big (l .«max_tags») page (firstOf v) in
+        let profile = profileChecks v big (slotsSeen v page) l in
+        never-both number (headerChecks v) (walk ++ (pay profileFee ∷ profile)) never-header
+        (never-both number walk (pay profileFee ∷ profile) (never-walk big (l .«max_tags») page (firstOf v))
+        (unusual budget (omega arith) (omega arith), never-profile big (slotsSeen v page) l))
 
 module _ (page : ℕ) (l : Limits) (u w : ℕ) where
   -- of a whole file nothing is missing
   pub never-missing : (file : List ℕ) → run (frontChecks (seen file []) page l) u ≡ Refused notArrived w → ⊥
-  never-missing file = never notArrived (frontChecks (seen file []) page l) u w (never-front notArrived missing-unusual (seen file []) (λ z. whole-came file) page l)
+  never-missing file =
+      never notArrived (frontChecks (seen file []) page l) u w (never-front notArrived missing-unusual (seen file []) (λ z. whole-came file) page l)
 
   -- nor of one with a map by which every byte came
-  pub never-missing-by : (file map : List ℕ) → ((i : ℕ) → i < length file → arrived map i ≡ true) → run (frontChecks (seen file map) page l) u ≡ Refused notArrived w → ⊥
+  pub never-missing-by : (file map : List ℕ) → ((i : ℕ) → i < length file → arrived map i ≡ true)
+      → run (frontChecks (seen file map) page l) u ≡ Refused notArrived w → ⊥
   never-missing-by file map came = rw (came-whole file map came) (never-missing file)
 
 -- answer, format and units left are the same for files that agree in all that came

@@ -1,4 +1,3 @@
 pub mod Fronts
-pub mod Container
 pub mod Accepted
 pub mod Arrival

@@ -1,50 +1,54 @@
 -- The front part of every reading: header, directories up to the page, 128 units, profile.
 use Prim.Native.Nat.{ℕ}
-use mathlib.Core.Bool.{Bool}
 use mathlib.Core.List.{List, _∷_, _++_}
 use Rattle.checks.specs.Checks.{Check, pay, run}
 use Rattle.checks.specs.declared.Told.{Told}
 use Rattle.checks.specs.declared.Told.the-variants as told-is
 use Rattle.seen.specs.Seen.{Seen}
-use Rattle.tiff.specs.Header.{headerChecks, big, firstOf}
+use Rattle.header.specs.Header.{headerChecks, bigEndian, firstOf}
+use Rattle.header.specs.declared.Limits.{Limits}
 use Rattle.tiff.specs.Directory.{entriesAt, slotsAt}
 use Rattle.tiff.specs.Walk.{walkChecks, pageAt}
-use Rattle.tiff.specs.declared.Limits.{Limits}
-use Rattle.logluv_format.specs.Profile.{profileChecks, formatOf}
-use Rattle.logluv_format.specs.declared.Format.{Format}
+use Rattle.profile.specs.Profile.{profileChecks, formatOf}
+use Rattle.picture.specs.declared.Format.{Format}
 use Rattle.front.specs.declared.Found.{Found}
 use Rattle.front.specs.declared.Found.the-variants.{Refused, Picture}
 
+-- what is charged after the directories
+abbrev pub profileFee : ℕ
+profileFee = 128
+
+module _ (v : Seen) (page : ℕ) where
+  -- where the page's directory stands, and its slots
+  abbrev pub pageSeen : ℕ
+  pageSeen = pageAt v (bigEndian v) page (firstOf v)
+
+  abbrev pub slotsSeen : List ℕ
+  slotsSeen = slotsAt v (bigEndian v) pageSeen
+
+  unfoldable pub frontChecks : Limits → List Check
+  frontChecks l =
+      headerChecks v ++
+      (walkChecks v (bigEndian v) (l .«max_tags») page (firstOf v) ++
+      (pay profileFee ∷
+      profileChecks v (bigEndian v) slotsSeen l))
+
+  abbrev pub formatSeen : Format
+  formatSeen = formatOf v (bigEndian v) (entriesAt v (bigEndian v) pageSeen) slotsSeen
+
+-- the answer: the first refusal, or the format, each with the units left
 abbrev pub found : Told → Format → Found
 found (told-is.Passed u) f = Picture f u
 found (told-is.Refused e u) f = Refused e u
 
-module _ (v : Seen) (b : Bool) where
-  unfoldable pub paidChecks : ℕ → List ℕ → Limits → List Check
-  paidChecks entries slots l = pay 128 ∷ profileChecks v b entries slots l
+abbrev pub foundOf : Seen → ℕ → Limits → ℕ → Found
+foundOf v page l left = found (run (frontChecks v page l) left) (formatSeen v page)
 
-  abbrev pub foundPaid : ℕ → List ℕ → Limits → ℕ → Found
-  foundPaid entries slots l left = found (run (paidChecks entries slots l) left) (formatOf v b entries slots)
+-- its number, 0 where nothing is refused, and the units that it leaves
+abbrev pub foundNumber : Found → ℕ
+foundNumber (Picture f u) = 0
+foundNumber (Refused e u) = e
 
-  -- the directory at a place as the page's
-  abbrev pub paidAt : ℕ → Limits → List Check
-  paidAt at l = paidChecks (entriesAt v b at) (slotsAt v b at) l
-
-  abbrev pub formatAt : ℕ → Format
-  formatAt at = formatOf v b (entriesAt v b at) (slotsAt v b at)
-
-  unfoldable pub pageChecks : ℕ → ℕ → Limits → List Check
-  pageChecks first page l = walkChecks v b (l .«max_tags») page first ++ paidAt (pageAt v b page first) l
-
-  abbrev pub foundPage : ℕ → ℕ → Limits → ℕ → Found
-  foundPage first page l left = found (run (pageChecks first page l) left) (formatAt (pageAt v b page first))
-
-module _ (v : Seen) where
-  unfoldable pub frontChecks : ℕ → Limits → List Check
-  frontChecks page l = headerChecks v ++ pageChecks v (big v) (firstOf v) page l
-
-  abbrev pub formatSeen : ℕ → Format
-  formatSeen page = formatAt v (big v) (pageAt v (big v) page (firstOf v))
-
-  abbrev pub foundOf : ℕ → Limits → ℕ → Found
-  foundOf page l left = found (run (frontChecks page l) left) (formatSeen page)
+abbrev pub foundLeft : Found → ℕ
+foundLeft (Picture f u) = u
+foundLeft (Refused e u) = u

@@ -1,3 +1,3 @@
 pub mod Front
-pub mod Container
 pub mod Accepted
+pub mod Inner

@@ -1,14 +1,14 @@
 // The front part of every reading: header, directories and profile, from a file's bytes to the format of its picture.
-use checks::BUDGET;
 use checks::Told;
-use logluv_format::Format;
-use logluv_format::profile::Profile;
-use tiff::Limits;
-use tiff::header::Start;
+use header::Limits;
+use header::Start;
+use picture::Format;
+use profile::Profile;
 ghost use mathlib.Core.Path.{_≡_};
 ghost use Rattle.seen.specs.Seen.{seen};
-ghost use Rattle.logluv_format.specs.Profile.{SlotsThere};
-ghost use Rattle.front.specs.Front.{foundPaid, foundPage, foundOf};
+ghost use Rattle.tiff.specs.Inner.{SlotsThere};
+ghost use Rattle.front.specs.Front.{foundOf};
+ghost use Rattle.front.specs.Inner.{foundPaid, foundPage};
 
 // A refusal's number or the picture's format, and the units left.
 pub enum Found {
@@ -29,13 +29,14 @@ fn read_paid(
     requires { ⌜ SlotsThere (seen (now file) (now map)) slots ⌝ }
     ensures { λ r. ⌜ r ≡ foundPaid (seen (now (file .entry)) (now (map .entry))) big entries slots limits left ⌝ }
 {
-    if left < 128 {
-        return Found::Refused(BUDGET, left);
-    }
-    let rest = left - 128;
-    match logluv_format::profile::read_profile(file, map, big, entries, slots, limits) {
-        Profile::Refused(e) => Found::Refused(e, rest),
-        Profile::Picture(format) => Found::Picture(format, rest),
+    match checks::spend(left, 128) {
+        Told::Refused(e, rest) => Found::Refused(e, rest),
+        Told::Passed(rest) => {
+            match logluv_format::read_profile(file, map, big, entries, slots, limits) {
+                Profile::Refused(e) => Found::Refused(e, rest),
+                Profile::Picture(format) => Found::Picture(format, rest),
+            }
+        }
     }
 }
 
@@ -52,7 +53,7 @@ fn read_page(
     ensures { λ r. ⌜ r ≡ foundPage (seen (now (file .entry)) (now (map .entry))) big first page limits left ⌝ }
 {
     let max_tags = limits.max_tags;
-    let d = tiff::directory::find_page(file, map, big, max_tags, page, first, left);
+    let d = tiff::find_page(file, map, big, max_tags, page, first, left);
     let told = d.told;
     match told {
         Told::Refused(e, u) => Found::Refused(e, u),
@@ -68,7 +69,7 @@ fn read_page(
 pub fn read_format(file: &[u8], map: &[u8], page: usize, limits: Limits, left: usize) -> Found
     ensures { λ r. ⌜ r ≡ foundOf (seen (now (file .entry)) (now (map .entry))) page limits left ⌝ }
 {
-    match tiff::header::read_header(file, map) {
+    match header::read_header(file, map) {
         Start::Refused(e) => Found::Refused(e, left),
         Start::At(big, first) => read_page(file, map, big, first, page, limits, left),
     }

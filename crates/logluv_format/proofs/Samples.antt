@@ -17,7 +17,7 @@ use Rattle.entries.specs.Values.{sizeOf, placeOf, valueAt, valueIs}
 use Rattle.entries.specs.declared.Value.{Value}
 use Rattle.entries.specs.declared.Value.the-variants.{Outside, Missing, Number}
 use Rattle.entries.proofs.EntryValues.{valueVerdict, value-verdict, value-is}
-use Rattle.logluv_format.specs.Profile.{eachIs}
+use Rattle.profile.specs.Profile.{eachIs}
 
 -- the loop: the values before i passed
 pub record Matching (v : Seen) (big : Bool) (e wanted i : ℕ) : Type 0 where

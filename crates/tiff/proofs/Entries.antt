@@ -13,34 +13,37 @@ use borrow.Author.Needs.{needs}
 use borrow.Author.Tests.{lt-ltb, le-ltb, eq-eqb, ne-eqb, eqb-true, eqb-false, ltb-true, ltb-false, not-true, not-false}
 use Rattle.lists.specs.Lists.{pick}
 use Rattle.seen.specs.Seen.{Seen, There}
+use Rattle.seen.proofs.Blocks.{true-false}
 use Rattle.seen.proofs.Words.{there-part}
-use Rattle.tiff.specs.Directory.{known, place, slotOf, none, tagAt, typeAt, entryOf, fresh, tagsFine, slotsIn, free, entered, EntryIs, TagsAre}
+use Rattle.tiff.specs.Slots.{known, absent}
+use Rattle.tiff.specs.Directory.{indexIn, slotOf, none, tagAt, typeAt, entryOf, fresh, tagsFine, slotsIn}
+use Rattle.tiff.specs.Inner.{free, entered, EntryIs, TagsAre}
 
 -- a search in a list: not among the first i
 pub record Passing (xs : List ℕ) (t i : ℕ) : Type 0 where
   pub within : i ≤ length xs
-  pub same : place xs t ≡ i + place (drop i xs) t
+  pub same : indexIn xs t ≡ i + indexIn (drop i xs) t
 
 pub from-first : (xs : List ℕ) (t : ℕ) → Passing xs t 0
 from-first xs t = record { within = omega arith; same = omega arith }
 
 module _ (xs : List ℕ) (t i : ℕ) (p : Passing xs t i) where
   module _ (h : i < length xs) where
-    here : place (drop i xs) t ≡ pick (eqb (getD xs i 0) t) 0 (suc (place (drop (i + 1) xs) t))
-    unfolding place
+    here : indexIn (drop i xs) t ≡ pick (eqb (getD xs i 0) t) 0 (suc (indexIn (drop (i + 1) xs) t))
+    unfolding indexIn
     here = rw (add-one i, drop-cons xs i 0 h)
 
-    pub found-there : getD xs i 0 ≡ t → i ≡ place xs t
-    found-there e = let x : place (drop i xs) t ≡ 0 = here ∙ simp (eq-eqb _ _ e) in omega (arith, p .same)
+    pub found-there : getD xs i 0 ≡ t → i ≡ indexIn xs t
+    found-there e = let x : indexIn (drop i xs) t ≡ 0 = here ∙ simp (eq-eqb _ _ e) in omega (arith, p .same)
 
     pub passed-by : (getD xs i 0 ≡ t → ⊥) → Passing xs t (i + 1)
     passed-by e =
-        let x : place (drop i xs) t ≡ suc (place (drop (i + 1) xs) t) = here ∙ simp (ne-eqb _ _ e) in
+        let x : indexIn (drop i xs) t ≡ suc (indexIn (drop (i + 1) xs) t) = here ∙ simp (ne-eqb _ _ e) in
         record { within = omega arith; same = omega (arith, p .same) }
 
-  pub none-left : length xs ≤ i → i ≡ place xs t
-  unfolding place
-  none-left h = let x : place (drop i xs) t ≡ 0 = rw (drop-of-length-le xs h) in omega (arith, p .same)
+  pub none-left : length xs ≤ i → i ≡ indexIn xs t
+  unfolding indexIn
+  none-left h = let x : indexIn (drop i xs) t ≡ 0 = rw (drop-of-length-le xs h) in omega (arith, p .same)
 
 pub ruleset slots = (from-first, found-there, passed-by, none-left, needs)
 
@@ -81,31 +84,40 @@ map-at f [] k h = absurd (omega arith)
 map-at f (x ∷ xs) zero h = refl
 map-at f (x ∷ xs) (suc k) h = map-at f xs k (omega arith)
 
-place-most : (xs : List ℕ) (t : ℕ) → place xs t ≤ length xs
-unfolding place
+place-most : (xs : List ℕ) (t : ℕ) → indexIn xs t ≤ length xs
+unfolding indexIn
 place-most [] t = omega arith
 place-most (x ∷ xs) t = by (eqb x t) (place-most xs t)
   where
-    by : (b : Bool) → place xs t ≤ length xs → pick b 0 (suc (place xs t)) ≤ suc (length xs)
+    by : (b : Bool) → indexIn xs t ≤ length xs → pick b 0 (suc (indexIn xs t)) ≤ suc (length xs)
     by true h = omega arith
     by false h = omega arith
 
 Absent : List ℕ → ℕ → Type 0
-Absent xs t = place xs t ≡ length xs
+Absent xs t = indexIn xs t ≡ length xs
 
-Distinct : List ℕ → Type 0
-Distinct [] = Unit
-Distinct (x ∷ xs) = Absent xs x × Distinct xs
+-- each number once, as a test that computes
+distinct : List ℕ → Bool
+distinct [] = true
+distinct (x ∷ xs) = eqb (indexIn xs x) (length xs) && distinct xs
 
-known-distinct : Distinct known
-unfolding Distinct Absent known place
-known-distinct = (refl, (refl, (refl, (refl, (refl, (refl, (refl, (refl, (refl, (refl, (refl, (refl, (refl, (refl, (refl, (refl, (refl, (refl, (refl, tt)))))))))))))))))))
+known-distinct : distinct known ≡ true
+unfolding distinct known indexIn
+known-distinct = refl
+
+distinct-parts : (x : ℕ) (xs : List ℕ) → distinct (x ∷ xs) ≡ true → Absent xs x × (distinct xs ≡ true)
+unfolding distinct Absent
+distinct-parts x xs d = by (eqb (indexIn xs x) (length xs)) refl d
+  where
+    by : (t : Bool) → eqb (indexIn xs x) (length xs) ≡ t → t && distinct xs ≡ true → (indexIn xs x ≡ length xs) × (distinct xs ≡ true)
+    by true q h = (eqb-true (indexIn xs x) (length xs) q, h)
+    by false q h = absurd (true-false h refl)
 
 absent-rest : (x : ℕ) (xs : List ℕ) (t : ℕ) → Absent (x ∷ xs) t → (x ≡ t → ⊥) × Absent xs t
-unfolding Absent place
+unfolding Absent indexIn
 absent-rest x xs t a = by (eqb x t) refl a
   where
-    by : (b : Bool) → eqb x t ≡ b → pick b 0 (suc (place xs t)) ≡ suc (length xs) → (x ≡ t → ⊥) × (place xs t ≡ length xs)
+    by : (b : Bool) → eqb x t ≡ b → pick b 0 (suc (indexIn xs t)) ≡ suc (length xs) → (x ≡ t → ⊥) × (indexIn xs t ≡ length xs)
     by true q z = absurd (omega arith)
     by false q z = (eqb-false x t q, omega arith)
 
@@ -120,27 +132,30 @@ module _ (f : ℕ → ℕ) (t e : ℕ) where
       let r = absent-rest x xs t a in
       rw (ne-eqb t x (λ (q : t ≡ x). r .0 (sym q)), map-other xs (r .1))
 
-  map-place : (xs : List ℕ) → place xs t < length xs → getD (map f xs) (place xs t) 0 ≡ f t
-  unfolding place
+  map-place : (xs : List ℕ) → indexIn xs t < length xs → getD (map f xs) (indexIn xs t) 0 ≡ f t
+  unfolding indexIn
   map-place [] h = absurd (omega arith)
   map-place (x ∷ xs) h = by (eqb x t) refl h (map-place xs)
     where
-      by : (b : Bool) → eqb x t ≡ b → pick b 0 (suc (place xs t)) < suc (length xs) → (place xs t < length xs → getD (map f xs) (place xs t) 0 ≡ f t) → getD (f x ∷ map f xs) (pick b 0 (suc (place xs t))) 0 ≡ f t
+      by : (b : Bool) → eqb x t ≡ b → pick b 0 (suc (indexIn xs t)) < suc (length xs) → (indexIn xs t < length xs → getD (map f xs) (indexIn xs t) 0 ≡ f t)
+          → getD (f x ∷ map f xs) (pick b 0 (suc (indexIn xs t))) 0 ≡ f t
       by true q l k = ap f (eqb-true x t q)
       by false q l k = k (omega arith)
 
-  set-place : (xs : List ℕ) → Distinct xs → place xs t < length xs → set (map f xs) (place xs t) e ≡ map with xs
-  unfolding place Distinct
+  set-place : (xs : List ℕ) → distinct xs ≡ true → indexIn xs t < length xs → set (map f xs) (indexIn xs t) e ≡ map with xs
+  unfolding indexIn
   set-place [] d h = absurd (omega arith)
-  set-place (x ∷ xs) d h = by (eqb x t) refl h (set-place xs (d .1))
+  set-place (x ∷ xs) d h = by (eqb x t) refl h (set-place xs (distinct-parts x xs d .1))
     where
-      by : (b : Bool) → eqb x t ≡ b → pick b 0 (suc (place xs t)) < suc (length xs) → (place xs t < length xs → set (map f xs) (place xs t) e ≡ map with xs) → set (f x ∷ map f xs) (pick b 0 (suc (place xs t))) e ≡ with x ∷ map with xs
+      by : (b : Bool) → eqb x t ≡ b → pick b 0 (suc (indexIn xs t)) < suc (length xs)
+          → (indexIn xs t < length xs → set (map f xs) (indexIn xs t) e ≡ map with xs)
+          → set (f x ∷ map f xs) (pick b 0 (suc (indexIn xs t))) e ≡ with x ∷ map with xs
       by true q l k =
-          let a : Absent xs t = rw (← eqb-true x t q) (d .0) in
+          let a : Absent xs t = rw (← eqb-true x t q) (distinct-parts x xs d .0) in
           rw (eq-eqb t x (sym (eqb-true x t q)), map-other xs a)
       by false q l k = rw (ne-eqb t x (λ (z : t ≡ x). eqb-false x t q (sym z)), k (omega arith))
 
-known-slot : (t : ℕ) → ltb (slotOf t) 19 ≡ true → place known t < length known
+known-slot : (t : ℕ) → ltb (slotOf t) 19 ≡ true → indexIn known t < length known
 unfolding known
 known-slot t q = ltb-true (slotOf t) 19 q
 
@@ -150,24 +165,34 @@ unknown-slot t q = le-antisymm (place-most known t) (ltb-false (slotOf t) 19 q)
 
 -- what one entry does to the slots of those before it
 module _ (v : Seen) (big : Bool) (first i : ℕ) where
-  abbrev tagOf : ℕ
-  tagOf = tagAt v big (first + 12 * i)
+  abbrev place : ℕ
+  place = first + 12 * i
+
+  abbrev tag : ℕ
+  tag = tagAt v big place
+
+  -- the entry of a tag among those before this one
+  abbrev before : ℕ → ℕ
+  before t = entryOf v big first t i
+
+  abbrev allowed : Bool → ℕ → Bool
+  allowed b e = not b || (not (eqb (typeAt v big place) 0) && absent e)
 
   free-is : free v big (first + 12 * i) (slotsIn v big first i) ≡ fresh v big first i
   unfolding free fresh slotsIn
-  free-is = by (ltb (slotOf tagOf) 19) refl
+  free-is = by (ltb (slotOf tag) 19) refl
     where
-      by : (b : Bool) → ltb (slotOf tagOf) 19 ≡ b → (not b || (not (eqb (typeAt v big (first + 12 * i)) 0) && eqb (getD (map (λ t. entryOf v big first t i) known) (slotOf tagOf) 0) 0)) ≡ (not b || (not (eqb (typeAt v big (first + 12 * i)) 0) && eqb (entryOf v big first tagOf i) 0))
-      by true q = rw (map-place (λ t. entryOf v big first t i) tagOf 0 known (known-slot tagOf q))
+      by : (b : Bool) → ltb (slotOf tag) 19 ≡ b → allowed b (getD (map before known) (slotOf tag) 0) ≡ allowed b (before tag)
+      by true q = rw (map-place before tag 0 known (known-slot tag q))
       by false q = refl
 
   entered-is : entered v big (first + 12 * i) (slotsIn v big first i) ≡ slotsIn v big first (i + 1)
   unfolding entered slotsIn entryOf
-  entered-is = rw (add-one i) (by (ltb (slotOf tagOf) 19) refl)
+  entered-is = rw (add-one i) (by (ltb (slotOf tag) 19) refl)
     where
-      by : (b : Bool) → ltb (slotOf tagOf) 19 ≡ b → pick b (set (map (λ t. entryOf v big first t i) known) (slotOf tagOf) (first + 12 * i)) (map (λ t. entryOf v big first t i) known) ≡ map (with (λ t. entryOf v big first t i) tagOf (first + 12 * i)) known
-      by true q = set-place (λ t. entryOf v big first t i) tagOf (first + 12 * i) known known-distinct (known-slot tagOf q)
-      by false q = sym (map-other (λ t. entryOf v big first t i) tagOf (first + 12 * i) known (unknown-slot tagOf q))
+      by : (b : Bool) → ltb (slotOf tag) 19 ≡ b → pick b (set (map before known) (slotOf tag) place) (map before known) ≡ map (with before tag place) known
+      by true q = set-place before tag place known known-distinct (known-slot tag q)
+      by false q = sym (map-other before tag place known (unknown-slot tag q))
 
 tags-bad : (v : Seen) (big : Bool) (first n i : ℕ) → i < n → fresh v big first i ≡ false → tagsFine v big first n ≡ false
 unfolding tagsFine

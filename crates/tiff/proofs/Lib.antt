@@ -1,4 +1,4 @@
-pub mod Orders
+pub mod Slots
 pub mod Entries
 pub mod Pages
-pub mod Places
+pub mod Container

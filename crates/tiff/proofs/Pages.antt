@@ -9,7 +9,7 @@ use borrow.Author.Needs.{needs}
 use borrow.Author.Tests.{not-true, not-false}
 use Rattle.lists.specs.Lists.{pick}
 use Rattle.checks.specs.Numbers.{invalid, limit, pageNotFound}
-use Rattle.checks.specs.Checks.{Check, must, pay, run, verdict, cost}
+use Rattle.checks.specs.Checks.{Check, must, pay, run, verdict, cost, onPass}
 use Rattle.checks.specs.declared.Told.{Told}
 use Rattle.checks.specs.declared.Told.the-variants.{Refused, Passed}
 use Rattle.checks.specs.declared.Verdict.{Verdict}
@@ -18,9 +18,10 @@ use Rattle.checks.proofs.Exact.{accepted, fine, holds-then, then, stops, run-fi
 use Rattle.checks.proofs.Rules.{pos, ended, onward, ended-free, onward-free, refused-there, fine-so-far, refuse, allow, all-fine, tests}
 use Rattle.seen.specs.Seen.{Seen, there, There, four}
 use Rattle.seen.proofs.Words.{there-part, there-of, holds-there}
-use Rattle.tiff.specs.Directory.{entriesAt, nextAt, countChecks, bodyChecks, charge, tagChecks, directoryChecks, TagsAre, Gives, Body, refusedDirectory}
+use Rattle.tiff.specs.Directory.{none, entriesAt, slotsAt, nextAt, countChecks, bodyChecks, directoryFeeChecks, tagChecks, directoryChecks, Gives}
+use Rattle.tiff.specs.Inner.{TagsAre, Body, refusedDirectory}
 use Rattle.tiff.specs.Walk.{walkChecks, pageAt}
-use Rattle.tiff.specs.declared.directory.Directory.{Directory}
+use Rattle.tiff.specs.declared.Directory.{Directory}
 
 -- the number of entries
 module _ (v : Seen) (big : Bool) (maxTags at : ℕ) {r : Verdict} (er : r ≡ verdict (there v at 2)) where
@@ -46,7 +47,8 @@ module _ (v : Seen) (big : Bool) (maxTags at : ℕ) {r : Verdict} (er : r ≡ ve
 pub ruleset counts = (there-of, count-refused, none-there, too-many, counted, needs)
 
 -- a refusal gives nothing else
-pub gives-refused : (v : Seen) (big : Bool) (cs : List Check) (at left e u : ℕ) (d : Directory) → Refused e u ≡ run cs left → d ≡ refusedDirectory e u → Gives v big cs at left d
+pub gives-refused : (v : Seen) (big : Bool) (cs : List Check) (at left e u : ℕ) (d : Directory) → Refused e u ≡ run cs left → d ≡ refusedDirectory e u
+    → Gives v big cs at left d
 gives-refused v big cs at left e u d q z = rw z (record { told-is = q; entries-are = refl; slots-are = refl; next-is = refl })
 
 -- the bytes of the body, and the charge, by the count that was read
@@ -60,7 +62,7 @@ module _ (v : Seen) (big : Bool) (at n left : ℕ) (en : n ≡ entriesAt v big a
     unfolding cost
     body-refused e q = sym (run-refused (bodyChecks v big at) left e refl (rw (← en) (sym er ∙ q)))
 
-  pub charged : {t : Told} → t ≡ run (pay (n + 1) ∷ []) left → t ≡ run (charge v big at) left
+  pub charged : {t : Told} → t ≡ run (pay (n + 1) ∷ []) left → t ≡ run (directoryFeeChecks v big at) left
   charged e = rw en at e
 
 pub ruleset charges = (body-needed, body-refused, charged, needs)
@@ -81,7 +83,8 @@ module _ (v : Seen) (big : Bool) (at n : ℕ) (b : Body v big at) (en : n ≡ en
     pub body-bad : (d : Directory) → good ≡ false → d ≡ refusedDirectory invalid left → Gives v big (tagChecks v big at) at left d
     body-bad d f z = gives-refused v big (tagChecks v big at) at left invalid left d (sym (checked ∙ rw f)) z
 
-    pub body-read : (next : ℕ) → good ≡ true → next ≡ four big v (at + 2 + 12 * n) → Gives v big (tagChecks v big at) at left (record { told = Passed left; entries = n; slots = slots; next = next })
+    pub body-read : (next : ℕ) → good ≡ true → next ≡ four big v (at + 2 + 12 * n)
+        → Gives v big (tagChecks v big at) at left (record { told = Passed left; entries = n; slots = slots; next = next })
     body-read next f e = record { told-is = sym (checked ∙ rw f); entries-are = en; slots-are = g .slots-are ∙ rw (f, en); next-is = e ∙ rw en }
 
 pub count-of : (v : Seen) (big : Bool) (at : ℕ) → Body v big at → There v at 2
@@ -100,12 +103,15 @@ module _ (v : Seen) (big : Bool) (maxTags at : ℕ) {r : Verdict} (er : r ≡ ve
   count-there q = holds-there v at 2 (holds-then (there v at 2) _ (fine (countChecks v big maxTags at) .0 (sym er ∙ q)) .0)
 
   module _ (left : ℕ) where
-    pub directory-uncounted : (e : ℕ) (d : Directory) → r ≡ verdict-is.Refused e → d ≡ refusedDirectory e left → Gives v big (directoryChecks v big maxTags at) at left d
+    pub directory-uncounted : (e : ℕ) (d : Directory) → r ≡ verdict-is.Refused e → d ≡ refusedDirectory e left
+        → Gives v big (directoryChecks v big maxTags at) at left d
     unfolding directoryChecks
-    directory-uncounted e d q z = gives-refused v big _ at left e left d (ended-free (countChecks v big maxTags at) _ left e (count-free v big maxTags at) er q) z
+    directory-uncounted e d q z =
+        gives-refused v big _ at left e left d (ended-free (countChecks v big maxTags at) _ left e (count-free v big maxTags at) er q) z
 
     module _ (q : r ≡ verdict-is.Fine) {s : Told} (es : s ≡ run (bodyChecks v big at) left) where
-      counted-on : {t : Told} → t ≡ run (bodyChecks v big at ++ (charge v big at ++ tagChecks v big at)) left → t ≡ run (directoryChecks v big maxTags at) left
+      counted-on : {t : Told} → t ≡ run (bodyChecks v big at ++ (directoryFeeChecks v big at ++ tagChecks v big at)) left
+          → t ≡ run (directoryChecks v big maxTags at) left
       unfolding directoryChecks
       counted-on e = onward-free (countChecks v big maxTags at) _ left (count-free v big maxTags at) er q e
 
@@ -114,18 +120,23 @@ module _ (v : Seen) (big : Bool) (maxTags at : ℕ) {r : Verdict} (er : r ≡ ve
 
       module _ (u : ℕ) (p : s ≡ Passed u) where
         pub body-there : Body v big at
-        body-there = record { count = count-there q; body = holds-there v (at + 2) (12 * entriesAt v big at + 4) (accepted (bodyChecks v big at) left u .0 (sym es ∙ p) .holds) }
+        body-there = record {
+          count = count-there q;
+          body = holds-there v (at + 2) (12 * entriesAt v big at + 4) (accepted (bodyChecks v big at) left u .0 (sym es ∙ p) .holds);
+        }
 
-        module _ {w : Told} (ew : w ≡ run (charge v big at) u) where
-          body-on : {t : Told} → t ≡ run (charge v big at ++ tagChecks v big at) u → t ≡ run (directoryChecks v big maxTags at) left
+        module _ {w : Told} (ew : w ≡ run (directoryFeeChecks v big at) u) where
+          body-on : {t : Told} → t ≡ run (directoryFeeChecks v big at ++ tagChecks v big at) u → t ≡ run (directoryChecks v big maxTags at) left
           body-on e = counted-on (onward (bodyChecks v big at) _ left u es p e)
 
-          pub directory-unpaid : (e x : ℕ) (d : Directory) → w ≡ Refused e x → d ≡ refusedDirectory e x → Gives v big (directoryChecks v big maxTags at) at left d
-          directory-unpaid e x d k z = gives-refused v big _ at left e x d (body-on (ended (charge v big at) (tagChecks v big at) u e x ew k)) z
+          pub directory-unpaid : (e x : ℕ) (d : Directory) → w ≡ Refused e x → d ≡ refusedDirectory e x
+              → Gives v big (directoryChecks v big maxTags at) at left d
+          directory-unpaid e x d k z = gives-refused v big _ at left e x d (body-on (ended (directoryFeeChecks v big at) (tagChecks v big at) u e x ew k)) z
 
-          pub directory-read : (x : ℕ) (d : Directory) → w ≡ Passed x → Gives v big (tagChecks v big at) at x d → Gives v big (directoryChecks v big maxTags at) at left d
+          pub directory-read : (x : ℕ) (d : Directory) → w ≡ Passed x → Gives v big (tagChecks v big at) at x d
+              → Gives v big (directoryChecks v big maxTags at) at left d
           directory-read x d k g = record {
-            told-is = body-on (onward (charge v big at) (tagChecks v big at) u x ew k (g .told-is));
+            told-is = body-on (onward (directoryFeeChecks v big at) (tagChecks v big at) u x ew k (g .told-is));
             entries-are = g .entries-are;
             slots-are = g .slots-are;
             next-is = g .next-is;
@@ -150,7 +161,8 @@ module _ (v : Seen) (big : Bool) (maxTags : ℕ) where
     unfolding run walkChecks
     walk-ends w q = rw (pos at nz) q
 
-    walk-goes : (p w : ℕ) → run (directoryChecks v big maxTags at) u ≡ Passed w → run (walkChecks v big maxTags (suc p) at) u ≡ run (walkChecks v big maxTags p (nextAt v big at)) w
+    walk-goes : (p w : ℕ) → run (directoryChecks v big maxTags at) u ≡ Passed w
+        → run (walkChecks v big maxTags (suc p) at) u ≡ run (walkChecks v big maxTags p (nextAt v big at)) w
     unfolding run walkChecks
     walk-goes p w q = rw (pos at nz) (then (directoryChecks v big maxTags at) _ u w q)
 
@@ -190,8 +202,23 @@ module _ (v : Seen) (big : Bool) (maxTags page first left ahead at rest : ℕ) (
         let q : ahead ≡ suc (ahead - 1) = omega arith in
         let x : d .next ≡ nextAt v big at = rw t at (g .next-is) in
         record {
-          same = w .same ∙ ap (λ (k : ℕ). run (walkChecks v big maxTags k at) rest) q ∙ walk-goes v big maxTags at rest nz (ahead - 1) u (sym (g .told-is) ∙ t) ∙ ap (λ (k : ℕ). run (walkChecks v big maxTags (ahead - 1) k) u) (sym x);
+          same =
+              w .same
+              ∙ ap (λ (k : ℕ). run (walkChecks v big maxTags k at) rest) q
+              ∙ walk-goes v big maxTags at rest nz (ahead - 1) u (sym (g .told-is) ∙ t)
+              ∙ ap (λ (k : ℕ). run (walkChecks v big maxTags (ahead - 1) k) u) (sym x);
           same-page = w .same-page ∙ ap (λ (k : ℕ). pageAt v big k at) q ∙ ap (λ (k : ℕ). pageAt v big (ahead - 1) k) (sym x);
         }
 
 pub ruleset walks = (walking-none, page-missing, page-refused, page-found, walking-more, needs)
+
+-- what is given is one directory: each of its four parts is said
+module _ (v : Seen) (big : Bool) (cs : List Check) (at left : ℕ) (a b : Directory) (x : Gives v big cs at left a) (y : Gives v big cs at left b) where
+  abbrev made : Told → Directory
+  made t = record { told = t; entries = onPass t (entriesAt v big at) 0; slots = onPass t (slotsAt v big at) none; next = onPass t (nextAt v big at) 0 }
+
+  made-of : (d : Directory) → Gives v big cs at left d → d ≡ made (run cs left)
+  made-of d g = rw (← g .told-is, ← g .entries-are, ← g .slots-are, ← g .next-is)
+
+  pub gives-one : a ≡ b
+  gives-one = made-of a x ∙ sym (made-of b y)

@@ -1,3 +1,5 @@
-pub mod Header
+pub mod Slots
 pub mod Directory
 pub mod Walk
+pub mod Container
+pub mod Inner

@@ -1,0 +1,5 @@
+pub mod Sizes
+pub mod Placing
+pub mod Pictures
+pub mod Painted
+pub mod Painting

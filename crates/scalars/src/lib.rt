@@ -1,0 +1,122 @@
+// The profile's first step, the scalar slots: each is absent, which gives its default, or a single value of type 3 or 4.
+use checks::INVALID;
+use checks::Verdict;
+use profile::Numbers;
+ghost use mathlib.Core.Path.{_≡_};
+ghost use Prim.Native.Nat.{_<_};
+ghost use lib.ListN.{getD};
+ghost use Rattle.checks.specs.Checks.{verdict};
+ghost use Rattle.seen.specs.Seen.{seen};
+ghost use Rattle.tiff.specs.Slots.{defaults};
+ghost use Rattle.tiff.specs.Inner.{SlotsThere};
+ghost use Rattle.profile.specs.Profile.{scalars, scalarFine, step1, slotNumber, numbersOf};
+
+const SCALARS: [usize; 13] = [0, 1, 3, 4, 5, 7, 8, 9, 11, 12, 13, 14, 17];
+
+const DEFAULTS: [usize; 19] = [
+    0,
+    0,
+    0,
+    1,
+    0,
+    1,
+    0,
+    1,
+    1,
+    4294967295,
+    0,
+    1,
+    1,
+    0,
+    0,
+    0,
+    0,
+    0,
+    0,
+];
+
+fn scalar_slot(i: usize) -> usize
+    requires { ⌜ i < 13 ⌝ }
+    ensures { λ r. ⌜ (r ≡ getD scalars i 0) × (r < 19) ⌝ }
+{
+    SCALARS[i]
+}
+
+fn default_of(slot: usize) -> usize
+    requires { ⌜ slot < 19 ⌝ }
+    ensures { λ r. ⌜ (r ≡ getD defaults slot 0) × (r < 4294967296) ⌝ }
+{
+    DEFAULTS[slot]
+}
+
+// Whether a scalar slot is absent or has one value of type 3 or 4.
+fn is_fine(file: &[u8], map: &[u8], big: bool, slots: [usize; 19], slot: usize) -> bool
+    requires { ⌜ SlotsThere (seen (now file) (now map)) slots × (slot < 19) ⌝ }
+    ensures { λ r. ⌜ r ≡ scalarFine (seen (now (file .entry)) (now (map .entry))) big slots slot ⌝ }
+{
+    let entry = slots[slot];
+    if entry == 0 {
+        return true;
+    }
+    entries::has_values(file, map, big, entry, 1)
+}
+
+// Step 1: every scalar slot, ascending.
+pub fn check_scalars(file: &[u8], map: &[u8], big: bool, slots: [usize; 19]) -> Verdict
+    requires { ⌜ SlotsThere (seen (now file) (now map)) slots ⌝ }
+    ensures { λ r. ⌜ r ≡ verdict (step1 (seen (now (file .entry)) (now (map .entry))) big slots) ⌝ }
+{
+    let mut i: usize = 0;
+    while i < 13 {
+        if !is_fine(file, map, big, slots, scalar_slot(i)) {
+            return Verdict::Refused(INVALID);
+        }
+        i += 1;
+    }
+    Verdict::Fine
+}
+
+// The number of a scalar slot, or its default.
+fn number_of(file: &[u8], map: &[u8], big: bool, slots: [usize; 19], slot: usize) -> usize
+    requires { ⌜ SlotsThere (seen (now file) (now map)) slots × (slot < 19) ⌝ }
+    ensures { λ r. ⌜ (r ≡ slotNumber (seen (now (file .entry)) (now (map .entry))) big slots slot) × (r < 4294967296) ⌝ }
+{
+    let entry = slots[slot];
+    if entry == 0 {
+        return default_of(slot);
+    }
+    entries::scalar(file, map, big, entry)
+}
+
+// The numbers by name.
+pub fn read_numbers(file: &[u8], map: &[u8], big: bool, slots: [usize; 19]) -> Numbers
+    requires { ⌜ SlotsThere (seen (now file) (now map)) slots ⌝ }
+    ensures { λ r. ⌜ r ≡ numbersOf (seen (now (file .entry)) (now (map .entry))) big slots ⌝ }
+{
+    let width = number_of(file, map, big, slots, 0);
+    let height = number_of(file, map, big, slots, 1);
+    let compression = number_of(file, map, big, slots, 3);
+    let photometric = number_of(file, map, big, slots, 4);
+    let fill_order = number_of(file, map, big, slots, 5);
+    let orientation = number_of(file, map, big, slots, 7);
+    let samples = number_of(file, map, big, slots, 8);
+    let strip_rows = number_of(file, map, big, slots, 9);
+    let planar = number_of(file, map, big, slots, 11);
+    let predictor = number_of(file, map, big, slots, 12);
+    let tile_width = number_of(file, map, big, slots, 13);
+    let tile_height = number_of(file, map, big, slots, 14);
+    Numbers {
+        width: width,
+        height: height,
+        compression: compression,
+        photometric: photometric,
+        fill_order: fill_order,
+        orientation: orientation,
+        samples: samples,
+        strip_rows: strip_rows,
+        planar: planar,
+        predictor: predictor,
+        tile_width: tile_width,
+        tile_height: tile_height,
+    }
+}
