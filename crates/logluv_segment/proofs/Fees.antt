@@ -7,19 +7,23 @@ use native.Mathlib.Nat.{eq-or-lt-of-le}
 use Rattle.checks.specs.Checks.{cost}
 use Rattle.checks.proofs.Exact.{cost-then}
 use Rattle.seen.specs.Seen.{Seen}
-use Rattle.logluv_format.specs.declared.Format.{Format}
-use Rattle.logluv_segment.specs.Segment.{feeOf, planChecks, feeChecks, segmentChecks, eachSegment, feesOf}
-use Rattle.logluv_segment.proofs.Checking.{plan-free, stored-free}
+use Rattle.picture.specs.declared.Format.{Format}
+use Rattle.plan.specs.Plan.{feeOf, planChecks}
+use Rattle.plan.proofs.Planning.{plan-free}
+use Rattle.logluv_segment.specs.Segment.{feeChecks, segmentChecks, eachSegment, feesOf}
+use Rattle.logluv_segment.proofs.Checking.{stored-free}
 
 module _ (v : Seen) (f : Format) (maxOutput : ℕ) where
   pub segment-cost : (k : ℕ) → cost (segmentChecks v f maxOutput k) ≡ feeOf v f k
   unfolding cost segmentChecks
-  segment-cost k = cost-then (planChecks v f maxOutput k) (feeChecks v f k) ∙ omega (arith, plan-free v f maxOutput k, stored-free v f k)
+  segment-cost k =
+      cost-then (planChecks v f maxOutput k) (feeChecks v f k) ∙ omega (arith, plan-free v f maxOutput k, stored-free v f k)
 
   pub segments-cost : (n k : ℕ) → cost (eachSegment v f maxOutput k n) ≡ feesOf v f k n
   unfolding cost eachSegment feesOf
   segments-cost zero k = refl
-  segments-cost (suc n) k = cost-then (segmentChecks v f maxOutput k) (eachSegment v f maxOutput (suc k) n) ∙ rw (segment-cost k, segments-cost n (suc k))
+  segments-cost (suc n) k =
+      cost-then (segmentChecks v f maxOutput k) (eachSegment v f maxOutput (suc k) n) ∙ rw (segment-cost k, segments-cost n (suc k))
 
 -- none of them is above the sum
 pub fee-below : (v : Seen) (f : Format) (n k j : ℕ) → k ≤ j → j < k + n → feeOf v f j ≤ feesOf v f k n

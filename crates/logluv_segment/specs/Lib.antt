@@ -1,3 +1,2 @@
-pub mod Fee
 pub mod Segment
-pub mod Shown
+pub mod Inner

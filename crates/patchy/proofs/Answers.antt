@@ -1,31 +1,33 @@
 -- What a reading that is admitted may rely on, its answer, and what it leaves in the three buffers.
-use Prim.Native.Nat.{ℕ, _-_, _≤_}
+use Prim.Native.Nat.{ℕ, _+_, _-_, _≤_}
 use mathlib.Core.Path.{_≡_, sym, ap, _∙_}
-use mathlib.Core.List.{List, _++_}
+use mathlib.Core.List.{List, _++_, append-nil}
 use native.Mathlib.Omega.{arith}
 use native.Mathlib.Nat.{sub-zero}
-use lib.ListN.{length, take, drop, replicate, length-replicate}
-use lib.Seq.{length-take-le}
+use lib.ListN.{length, take, drop, replicate, length-drop, length-replicate, replicate-append-replicate, drop-of-length-le}
+use lib.Seq.{length-take-le, take-at, drop-at}
 use borrow.Author.Needs.{needs}
 use borrow.Author.Tests.{leb-true}
-use Rattle.lists.specs.Lists.{tabulate, overlay}
-use Rattle.checks.specs.Checks.{run, Holds}
+use Rattle.lists.specs.Lists.{overlay}
+use Rattle.lists.proofs.Overlay.{length-span}
+use Rattle.checks.specs.Checks.{Holds}
+use Rattle.checks.specs.declared.Told.{Told}
 use Rattle.checks.specs.declared.Told.the-variants as told-is
-use Rattle.checks.proofs.Exact.{accepted, holds-then}
-use Rattle.seen.specs.Seen.{Seen, mapChecks}
-use Rattle.tiff.specs.Header.{limitChecks}
-use Rattle.tiff.specs.declared.Limits.{Limits}
-use Rattle.front.specs.Front.{frontChecks, formatSeen}
+use Rattle.seen.specs.Seen.{Seen}
+use Rattle.header.specs.declared.Limits.{Limits}
+use Rattle.front.specs.Front.{found, formatSeen}
 use Rattle.front.specs.declared.Found.{Found}
 use Rattle.front.specs.declared.Found.the-variants as found-is
-use Rattle.front.proofs.Fronts.{goes-on}
-use Rattle.front.proofs.Accepted.{front-readable}
-use Rattle.logluv_format.specs.declared.Format.{Format}
-use Rattle.logluv_segment.specs.Segment.{scratchOf}
-use Rattle.logluv_segment.proofs.Clearing.{zeroed}
+use Rattle.picture.specs.declared.Format.{Format}
+use Rattle.picture.specs.Picture.{scratchOf}
+use Rattle.clearing.proofs.Clearing.{zeroed}
 use Rattle.quality.specs.Quality.{codeOf}
-use Rattle.patchy.specs.Patchy.{roomIn, sizesOf, reading, Held, roomChecks, chargeChecks, admitChecks, pageChecks, readChecks, admitted, readingOf, codesOver, pictureOver, outputAfter, scratchAfter, qualityAfter}
-use Rattle.patchy.specs.declared.Room.{Room}
+use Rattle.admission.specs.Admission.{roomIn, bufferChecks, admitted}
+use Rattle.patchy.specs.Patchy.{sizesOf, readingFrom, readingOf, codesOver, outputAfter, scratchAfter, qualityAfter}
+use Rattle.marking.specs.Marks.{shownOver, codesOf}
+use Rattle.marking.specs.Inner.{Held}
+use Rattle.admission.specs.declared.Room.{Room}
+use Rattle.admission.proofs.Admitted.{admitted-format, admitted-readable, admitted-room}
 use Rattle.patchy.specs.declared.Sizes.{Sizes}
 use Rattle.patchy.specs.declared.Reading.the-variants.{Refused, Picture}
 
@@ -36,62 +38,73 @@ pub scratch-zeroed : (f : Format) (needed : ℕ) (old used cleared : List ℕ) �
     → cleared ++ drop (needed - 0) (drop 0 (used ++ drop (needed - 0) (drop 0 old))) ≡ overlay (replicate (scratchOf f) 0) old
 scratch-zeroed f needed old used cleared e room l z = rw (← e) (zeroed needed old used cleared (rw e room) l z)
 
--- the quality buffer, cleared before the segments are read
-module _ (v : Seen) (f : Format) (output scratch old cleared : List ℕ) (z : cleared ≡ replicate (length old) 0) where
-  pub held-cleared : (needed : ℕ) → needed ≡ scratchOf f → Held v f (roomIn output scratch old) → Held v f (roomIn output (take (needed - 0) (drop 0 scratch)) cleared)
-  held-cleared needed e h = record {
-    readable = h .readable;
-    output-holds = h .output-holds;
-    scratch-holds = rw (sub-zero needed) (omega (arith, length-take-le needed scratch (omega (arith, h .scratch-holds))));
-    quality-holds = rw (z, length-replicate {A = ℕ} (length old) 0) (h .quality-holds);
-  }
+-- the segments are lent the needed part of scratch
+pub held-part : (v : Seen) (f : Format) (output scratch quality : List ℕ) (needed : ℕ) → needed ≡ scratchOf f → Held v f (roomIn output scratch quality)
+    → Held v f (roomIn output (take (needed - 0) (drop 0 scratch)) quality)
+held-part v f output scratch quality needed e h = record {
+  readable = h .readable;
+  output-holds = h .output-holds;
+  scratch-holds = rw (sub-zero needed) (omega (arith, length-take-le needed scratch (omega (arith, h .scratch-holds))));
+  quality-holds = h .quality-holds;
+}
 
-  pub marked-over : (after : List ℕ) → after ≡ overlay (tabulate (f .segments) (codeOf v f)) cleared → after ≡ codesOver v f old
-  marked-over after e = rw z at e
+-- the quality bytes after the last segment, cleared after the segments are read
+zeros-after : (n m : ℕ) → drop {A = ℕ} n (replicate (n + m) 0) ≡ replicate m 0
+zeros-after n m = rw (← replicate-append-replicate {A = ℕ} n m 0) (drop-at {A = ℕ} (replicate n 0) (replicate m 0) n (length-replicate n 0))
 
-pub ruleset showings = (scratch-zeroed, held-cleared, marked-over, needs)
+pub tail-cleared : (v : Seen) (f : Format) (old marked cleared : List ℕ) → f .segments ≤ length old → marked ≡ overlay (codesOf v f) old
+    → cleared ≡ replicate (length (take (length old - f .segments) (drop (f .segments) marked))) 0
+    → take (f .segments) marked ++ (cleared ++ drop (length old - f .segments) (drop (f .segments) marked)) ≡ codesOver v f old
+unfolding overlay
+tail-cleared v f old marked cleared room e z =
+    let n = f .segments in
+    let m = length old - n in
+    let codes = codesOf v f in
+    let long : length codes ≡ n = length-span (codeOf v f) 0 n in
+    let all : length old ≡ n + m = omega arith in
+    let rest : length (drop n old) ≡ m = length-drop n old in
+    let none-after = drop-of-length-le (drop n old) {i = m} (omega (arith, rest)) in
+    let taken = length-take-le m (drop n old) (omega (arith, rest)) in
+    rw (z, e, long, take-at codes (drop n old) n long, drop-at codes (drop n old) n long, taken, none-after, append-nil {A = ℕ} (replicate m 0))
+    (ap (λ (x : List ℕ). codes ++ x) (sym (zeros-after n m) ∙ ap (λ (k : ℕ). drop {A = ℕ} n (replicate k 0)) (sym all)))
 
--- admitted: every check holds, and the format is that of the page
-module _ (v : Seen) (map page : ℕ) (l : Limits) (room : Room) (left : ℕ) {r : Found} (er : r ≡ admitted v map page l room left) (f : Format) (u : ℕ) (q : r ≡ found-is.Picture f u) where
-  passes : (run (readChecks v map page l room) left ≡ told-is.Passed u) × (f ≡ formatSeen v page)
-  passes = goes-on (run (readChecks v map page l room) left) (formatSeen v page) f u (sym er ∙ q)
+pub ruleset showings = (scratch-zeroed, held-part, tail-cleared, needs)
 
-  parts : Holds (frontChecks v page l) × Holds (admitChecks v (formatSeen v page) (l .«max_output») room)
-  unfolding readChecks pageChecks
-  parts =
-      let all = accepted (readChecks v map page l room) left u .0 (passes .0) .holds in
-      let after-limits = holds-then (limitChecks (v .size) page l) (mapChecks (v .size) map ++ pageChecks v page l room) all .1 in
-      let after-map = holds-then (mapChecks (v .size) map) (pageChecks v page l room) after-limits .1 in
-      holds-then (frontChecks v page l) (admitChecks v (formatSeen v page) (l .«max_output») room) after-map
+-- what a reading's answer tells of its checks
+pub picture-told : (t : Told) (f : Format) (s : Sizes) (w : ℕ) → readingFrom (found t f) ≡ Picture s w → (t ≡ told-is.Passed w) × (s ≡ sizesOf f)
+picture-told (told-is.Passed x) f s w q = (cc, cc)
+picture-told (told-is.Refused n x) f s w q = let z : _≡_ {A = ℕ} 0 1 = cc in absurd (omega arith)
 
-  room-holds : Holds (roomChecks f (l .«max_output») room)
-  unfolding admitChecks
-  room-holds = rw (passes .1) (holds-then (roomChecks (formatSeen v page) (l .«max_output») room) (chargeChecks v (formatSeen v page)) (parts .1) .0)
-
-  -- so the picture can be read into the buffers
-  pub held : Held v f room
-  unfolding roomChecks Holds
-  held = record {
-    readable = rw (passes .1) (front-readable v page l (parts .0));
-    output-holds = leb-true _ _ (room-holds .1 .0);
-    scratch-holds = leb-true _ _ (room-holds .1 .1 .0);
-    quality-holds = leb-true _ _ (room-holds .1 .1 .1 .0);
-  }
+pub refusal-told : (t : Told) (f : Format) (e w : ℕ) → readingFrom (found t f) ≡ Refused e w → t ≡ told-is.Refused e w
+refusal-told (told-is.Passed x) f e w q = let z : _≡_ {A = ℕ} 0 1 = cc in absurd (omega arith)
+refusal-told (told-is.Refused n x) f e w q = cc
 
 module _ (v : Seen) (map page : ℕ) (l : Limits) (room : Room) (left : ℕ) {r : Found} (er : r ≡ admitted v map page l room left) where
   -- the answer
   pub read-refused : (e u : ℕ) → r ≡ found-is.Refused e u → Refused e u ≡ readingOf v map page l room left
-  read-refused e u q = ap reading (sym q ∙ er)
+  read-refused e u q = ap readingFrom (sym q ∙ er)
 
   module _ (f : Format) (u : ℕ) (q : r ≡ found-is.Picture f u) where
     pub read-picture : {s : Sizes} → s ≡ sizesOf f → Picture s u ≡ readingOf v map page l room left
-    read-picture e = ap (λ (x : Sizes). Picture x u) e ∙ ap reading (sym q ∙ er)
+    read-picture e = ap (λ (x : Sizes). Picture x u) e ∙ ap readingFrom (sym q ∙ er)
+
+    -- what is admitted can be read into the buffers
+    pub held : Held v f room
+    unfolding bufferChecks Holds
+    held =
+        let room-holds = admitted-room v map page l room left er f u q in
+        record {
+          readable = admitted-readable v map page l room left er f u q;
+          output-holds = leb-true _ _ (room-holds .0);
+          scratch-holds = leb-true _ _ (room-holds .1 .0);
+          quality-holds = leb-true _ _ (room-holds .1 .1 .0);
+        }
 
     format-is : f ≡ formatSeen v page
-    format-is = passes v map page l room left er f u q .1
+    format-is = admitted-format v map page l room left er f u q
 
     -- what is left in the buffers
-    pub output-shown : (s : Sizes) (old after : List ℕ) → after ≡ pictureOver v f old → after ≡ outputAfter v page (Picture s u) old
+    pub output-shown : (s : Sizes) (old after : List ℕ) → after ≡ shownOver v f old → after ≡ outputAfter v page (Picture s u) old
     output-shown s old after e = rw format-is at e
 
     pub scratch-cleared : (s : Sizes) (old after : List ℕ) → after ≡ overlay (replicate (scratchOf f) 0) old → after ≡ scratchAfter v page (Picture s u) old

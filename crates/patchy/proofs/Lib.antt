@@ -1,4 +1,1 @@
-pub mod Charging
-pub mod Marking
-pub mod Admitting
 pub mod Answers

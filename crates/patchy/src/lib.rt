@@ -1,31 +1,17 @@
 // Patchy reading: a picture of which not every block came. Each segment is marked, and one that is not good is blank.
+use admission::Room;
 use front::Found;
-use logluv_format::Format;
-use logluv_segment::paint;
-use logluv_segment::plan;
-use tiff::Limits;
+use header::Limits;
+use picture::Format;
 ghost use mathlib.Core.Path.{_≡_};
-ghost use lib.ListN.{length, replicate};
+ghost use lib.ListN.{replicate};
 ghost use Rattle.lists.specs.Lists.{overlay};
 ghost use Rattle.seen.specs.Seen.{seen};
-ghost use Rattle.logluv_segment.specs.Segment.{scratchOf};
-ghost use Rattle.patchy.specs.Patchy.{roomIn, sizesOf, Held, readingOf, codesOver, pictureOver, outputAfter, scratchAfter, qualityAfter};
-
-// Everything that can refuse, before anything is written.
-mod admission;
-
-// The one charge for all segments.
-mod charges;
-
-// All segments of a picture.
-mod segments;
-
-// The lengths of the lent buffers.
-pub struct Room {
-    pub output: usize,
-    pub scratch: usize,
-    pub quality: usize,
-}
+ghost use Rattle.picture.specs.Picture.{scratchOf};
+ghost use Rattle.admission.specs.Admission.{roomIn};
+ghost use Rattle.patchy.specs.Patchy.{sizesOf, reading, codesOver, outputAfter, scratchAfter, qualityAfter};
+ghost use Rattle.marking.specs.Marks.{shownOver};
+ghost use Rattle.marking.specs.Inner.{Held};
 
 // The sides of a picture and of its blocks, and the number of its segments.
 pub struct Sizes {
@@ -64,14 +50,16 @@ fn show_picture(
     quality: &mut [u8],
 )
     requires { ⌜ Held (seen (now file) (now map)) format (roomIn (now output) (now scratch) (now quality)) ⌝ }
-    ensures picture { λ _. ⌜ now (output .exit) ≡ pictureOver (seen (now (file .entry)) (now (map .entry))) format (now (output .entry)) ⌝ }
+    ensures picture { λ _. ⌜ now (output .exit) ≡ shownOver (seen (now (file .entry)) (now (map .entry))) format (now (output .entry)) ⌝ }
     ensures cleared { λ _. ⌜ now (scratch .exit) ≡ overlay (replicate (scratchOf format) 0) (now (scratch .entry)) ⌝ }
     ensures marks { λ _. ⌜ now (quality .exit) ≡ codesOver (seen (now (file .entry)) (now (map .entry))) format (now (quality .entry)) ⌝ }
 {
-    let needed = plan::scratch_of(format);
-    paint::clear(quality);
-    segments::read_segments(file, map, format, output, &mut scratch[0..needed], quality);
-    paint::clear(&mut scratch[0..needed]);
+    let needed = picture::scratch_of(format);
+    let count = format.segments;
+    let end = quality.len();
+    marking::read_segments(file, map, format, output, &mut scratch[0..needed], quality);
+    clearing::clear(&mut scratch[0..needed]);
+    clearing::clear(&mut quality[count..end]);
 }
 
 // The limits, the map, header, directories and profile, the buffers and the charge, in order; then every segment gets its quality
@@ -86,7 +74,7 @@ pub fn read(
     scratch: &mut [u8],
     quality: &mut [u8],
 ) -> Reading
-    ensures answer { λ r. ⌜ r ≡ readingOf (seen (now (file .entry)) (now (map .entry))) (length (now (map .entry))) page limits (roomIn (now (output .entry)) (now (scratch .entry)) (now (quality .entry))) left ⌝ }
+    ensures { λ r. ⌜ r ≡ reading (now (file .entry)) (now (map .entry)) page limits (now (output .entry)) (now (scratch .entry)) (now (quality .entry)) left ⌝ }
     ensures picture { λ r. ⌜ now (output .exit) ≡ outputAfter (seen (now (file .entry)) (now (map .entry))) page r (now (output .entry)) ⌝ }
     ensures cleared { λ r. ⌜ now (scratch .exit) ≡ scratchAfter (seen (now (file .entry)) (now (map .entry))) page r (now (scratch .entry)) ⌝ }
     ensures marks { λ r. ⌜ now (quality .exit) ≡ qualityAfter (seen (now (file .entry)) (now (map .entry))) page r (now (quality .entry)) ⌝ }
@@ -98,7 +86,7 @@ pub fn read(
     };
     match admission::admit(file, map, page, limits, room, left) {
         Found::Refused(e, u) => {
-            paint::clear(quality);
+            clearing::clear(quality);
             Reading::Refused(e, u)
         }
         Found::Picture(format, u) => {

@@ -1,3 +1,1 @@
-pub mod Blanking
 pub mod Judging
-pub mod Showing

@@ -1,2 +1,2 @@
 pub mod Quality
-pub mod Blank
+pub mod Inner

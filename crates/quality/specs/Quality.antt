@@ -1,6 +1,5 @@
 -- The quality of a segment under a delivery map: its number, what it is charged, and what it shows.
 use Prim.Native.Nat.{ℕ}
-use mathlib.Core.Bool.{Bool, true, false}
 use mathlib.Core.List.{List, []}
 use lib.Dec.{eqb}
 use Rattle.lists.specs.Lists.{pick}
@@ -9,9 +8,10 @@ use Rattle.checks.specs.Checks.{verdict}
 use Rattle.checks.specs.declared.Verdict.{Verdict}
 use Rattle.checks.specs.declared.Verdict.the-variants.{Fine, Refused}
 use Rattle.seen.specs.Seen.{Seen}
-use Rattle.logluv_format.specs.declared.Format.{Format}
-use Rattle.logluv_segment.specs.Segment.{offsetOf, countOf, placeChecks, feeOf, storedChecks}
-use Rattle.logluv_segment.specs.Shown.{shown}
+use Rattle.picture.specs.declared.Format.{Format}
+use Rattle.plan.specs.Plan.{offsetOf, countOf, placeChecks, feeOf}
+use Rattle.logluv_segment.specs.Segment.{storedChecks}
+use Rattle.showing.specs.Shown.{shown}
 use Rattle.quality.specs.declared.Quality.{Quality}
 use Rattle.quality.specs.declared.Quality.the-variants.{Good, Missing, Outside, Rejected}
 
@@ -42,23 +42,15 @@ whereGood Missing bytes = []
 whereGood Outside bytes = []
 whereGood Rejected bytes = []
 
-abbrev pub passes : Verdict → Bool
-passes Fine = true
-passes (Refused e) = false
-
 module _ (v : Seen) (f : Format) (k : ℕ) where
-  -- whether its packets are accepted
-  abbrev pub accepts : Bool
-  accepts = passes (verdict (storedChecks v f k))
-
   unfoldable pub qualityIs : Quality
   qualityIs = judged (verdict (placeChecks v f k)) (verdict (storedChecks v f k)) (offsetOf v f k) (countOf v f k)
 
   abbrev pub codeOf : ℕ
   codeOf = codeIs qualityIs
 
-  abbrev pub chargeOf : ℕ
-  chargeOf = chargeIs qualityIs (feeOf v f k)
+  abbrev pub segmentCharge : ℕ
+  segmentCharge = chargeIs qualityIs (feeOf v f k)
 
   -- what segment k shows in the picture
   abbrev pub showsOf : List ℕ

@@ -1,33 +1,20 @@
-// One segment under a delivery map: its quality, what it is charged, and what it shows, put into the picture.
+// The quality of one segment under a delivery map, and what it is charged.
 use checks::Size;
 use checks::TRUNCATED;
 use checks::Verdict;
-use logluv_format::Format;
-use logluv_segment::plan;
-use logluv_segment::plan::Place;
+use picture::Format;
+use plan::Place;
 ghost use mathlib.Core.Path.{_≡_};
-ghost use Prim.Native.Nat.{_*_, _<_, _≤_};
-ghost use lib.ListN.{length};
-ghost use Rattle.lists.specs.Lists.{overlay};
+ghost use Prim.Native.Nat.{_<_};
+ghost use Rattle.checks.specs.Checks.{verdict};
 ghost use Rattle.checks.specs.Sizes.{within};
 ghost use Rattle.seen.specs.Seen.{seen};
-ghost use Rattle.logluv.specs.Packets.{expand};
-ghost use Rattle.logluv_format.specs.Readable.{Readable};
-ghost use Rattle.logluv_segment.specs.Segment.{areaOf, stored, Placed};
-ghost use Rattle.logluv_segment.specs.Shown.{painted};
-ghost use Rattle.quality.specs.Quality.{accepts, qualityIs, codeOf, chargeOf, showsOf, whereGood};
-
-// A segment that is not good.
-mod blank;
-
-// What stands in the quality buffer for a segment.
-pub const GOOD: u8 = 1;
-
-pub const MISSING: u8 = 2;
-
-pub const OUTSIDE: u8 = 3;
-
-pub const REJECTED: u8 = 4;
+ghost use Rattle.packets.specs.Packets.{part};
+ghost use Rattle.picture.specs.Inner.{Readable};
+ghost use Rattle.logluv_segment.specs.Segment.{fillChecks};
+ghost use Rattle.logluv_segment.specs.Inner.{InFile};
+ghost use Rattle.quality.specs.Quality.{qualityIs, segmentCharge};
+ghost use Rattle.quality.specs.Inner.{passes};
 
 // Good, with the offset and the count of its stored bytes; bytes in the file that did not come; bytes outside the file; packets
 // that are not accepted.
@@ -39,11 +26,11 @@ pub enum Quality {
 }
 
 // Whether the packets of a segment whose stored bytes are there are accepted.
-fn accepted(file: &[u8], map: &[u8], format: Format, k: usize, offset: usize, count: usize) -> bool
-    requires { ⌜ Placed (seen (now file) (now map)) format k offset count ⌝ }
-    ensures { λ r. ⌜ r ≡ accepts (seen (now (file .entry)) (now (map .entry))) format k ⌝ }
+fn accepted(file: &[u8], format: Format, k: usize, offset: usize, count: usize) -> bool
+    requires { ⌜ InFile (now file) format k offset count ⌝ }
+    ensures { λ r. ⌜ r ≡ passes (verdict (fillChecks format k (part (now (file .entry)) offset count))) ⌝ }
 {
-    match logluv_segment::check_packets(file, map, format, k, offset, count) {
+    match logluv_segment::check_packets(file, format, k, offset, count) {
         Verdict::Fine => true,
         Verdict::Refused(_) => false,
     }
@@ -63,7 +50,7 @@ pub fn quality_of(file: &[u8], map: &[u8], format: Format, k: usize) -> Quality
             }
         }
         Place::Range(offset, count) => {
-            if accepted(file, map, format, k, offset, count) {
+            if accepted(file, format, k, offset, count) {
                 Quality::Good(offset, count)
             } else {
                 Quality::Rejected
@@ -75,44 +62,10 @@ pub fn quality_of(file: &[u8], map: &[u8], format: Format, k: usize) -> Quality
 // One unit, or the fee where the stored bytes are there, be their packets accepted or not.
 pub fn charge_of(file: &[u8], map: &[u8], format: Format, k: usize) -> Size
     requires { ⌜ Readable (seen (now file) (now map)) format × (k < format .segments) ⌝ }
-    ensures { λ r. ⌜ r ≡ within (chargeOf (seen (now (file .entry)) (now (map .entry))) format k) ⌝ }
+    ensures { λ r. ⌜ r ≡ within (segmentCharge (seen (now (file .entry)) (now (map .entry))) format k) ⌝ }
 {
     match plan::locate(file, map, format, k) {
         Place::Refused(_) => Size::Fits(1),
-        Place::Range(_, count) => plan::fee_of(count, plan::area_of(format, k)),
-    }
-}
-
-// The number of a segment, whose pixels are put into the picture where it is good and made zero where it is not.
-pub fn read_segment(
-    file: &[u8],
-    map: &[u8],
-    format: Format,
-    k: usize,
-    scratch: &mut [u8],
-    output: &mut [u8],
-) -> u8
-    requires { ⌜ Readable (seen (now file) (now map)) format × (k < format .segments) × (4 * areaOf format k ≤ length (now scratch)) × (format .output ≤ length (now output)) ⌝ }
-    ensures code { λ r. ⌜ r ≡ codeOf (seen (now (file .entry)) (now (map .entry))) format k ⌝ }
-    ensures planes { λ _. ⌜ now (scratch .exit) ≡ overlay (whereGood (qualityIs (seen (now (file .entry)) (now (map .entry))) format k) (expand (stored (seen (now (file .entry)) (now (map .entry))) format k) 0)) (now (scratch .entry)) ⌝ }
-    ensures picture { λ _. ⌜ now (output .exit) ≡ painted format k (showsOf (seen (now (file .entry)) (now (map .entry))) format k) (now (output .entry)) ⌝ }
-{
-    match quality_of(file, map, format, k) {
-        Quality::Good(offset, count) => {
-            logluv_segment::show_segment(file, map, format, k, offset, count, scratch, output);
-            GOOD
-        }
-        Quality::Missing => {
-            blank::blank(format, k, output);
-            MISSING
-        }
-        Quality::Outside => {
-            blank::blank(format, k, output);
-            OUTSIDE
-        }
-        Quality::Rejected => {
-            blank::blank(format, k, output);
-            REJECTED
-        }
+        Place::Range(_, count) => geometry::fee_of(count, picture::area_of(format, k)),
     }
 }

@@ -6,8 +6,8 @@ use Rattle.logluv_segment.proofs.check_packets.Tie as tie
 area-of-requires : tie.Need-area-of-requires
 area-of-requires c κs = search packets
 
-mul-needed : tie.Need-mul-needed
-mul-needed c = search packets
+needed-for-requires : tie.Need-needed-for-requires
+needed-for-requires c κs = search packets
 
 add-end : tie.Need-add-end
 add-end c = search packets
@@ -32,7 +32,7 @@ check-packets-spec =
     tie.close
     (tie.spec
     area-of-requires
-    mul-needed
+    needed-for-requires
     add-end
     sub-check-part
     part-check-part-start

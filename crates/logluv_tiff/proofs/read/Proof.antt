@@ -1,5 +1,5 @@
 -- What inspection refuses is refused; what it gives can be shown, and each answer and buffer is that of the checks.
-use Rattle.logluv_tiff.proofs.Claims.{reading}
+use Rattle.decoding.proofs.Claims.{reading}
 use Rattle.logluv_tiff.proofs.read.Statement.{statement}
 use Rattle.logluv_tiff.proofs.read.Tie as tie
 

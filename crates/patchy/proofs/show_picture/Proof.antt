@@ -1,13 +1,11 @@
--- Quality is cleared first; both other calls are lent the needed part of scratch alone, so all after it stays, and the second leaves it zero.
+-- The first two calls are lent the needed part of scratch alone, so all after it stays, and the second leaves it zero; the last makes the
+-- quality bytes after the last segment zero.
 use Rattle.patchy.proofs.Answers.{showings}
 use Rattle.patchy.proofs.show_picture.Statement.{statement}
 use Rattle.patchy.proofs.show_picture.Tie as tie
 
 scratch-of-requires : tie.Need-scratch-of-requires
 scratch-of-requires c κs = search showings
-
-clear-requires : tie.Need-clear-requires
-clear-requires c κs = search showings
 
 sub-read-segments : tie.Need-sub-read-segments
 sub-read-segments c = search showings
@@ -30,6 +28,18 @@ part-clear-start c = search showings
 part-clear-end : tie.Need-part-clear-end
 part-clear-end c = search showings
 
+clear-requires : tie.Need-clear-requires
+clear-requires c κs = search showings
+
+sub-clear-2 : tie.Need-sub-clear-2
+sub-clear-2 c = search showings
+
+part-clear-start-2 : tie.Need-part-clear-start-2
+part-clear-start-2 c = search showings
+
+part-clear-end-2 : tie.Need-part-clear-end-2
+part-clear-end-2 c = search showings
+
 clear-requires-2 : tie.Need-clear-requires-2
 clear-requires-2 c κs = search showings
 
@@ -50,7 +60,6 @@ show-picture-spec =
     tie.close
     (tie.spec
     scratch-of-requires
-    clear-requires
     sub-read-segments
     part-read-segments-start
     part-read-segments-end
@@ -58,6 +67,10 @@ show-picture-spec =
     sub-clear
     part-clear-start
     part-clear-end
+    clear-requires
+    sub-clear-2
+    part-clear-start-2
+    part-clear-end-2
     clear-requires-2
     same-length
     same-length-2

@@ -1,0 +1,3 @@
+pub mod Charging
+pub mod Admitting
+pub mod Admitted

@@ -1,5 +1,0 @@
-pub mod Bounds
-pub mod Handles
-pub mod Inspecting
-pub mod Showing
-pub mod Claims
