@@ -5,51 +5,11 @@ use checks::LIMIT;
 use checks::Size;
 use checks::Told;
 use checks::Verdict;
-use logluv_tiff::Inspected;
+use handle::Inspected;
+use header::Limits;
 use patchy::Reading;
-use tiff::Limits;
-ghost use mathlib.Core.Path.{_≡_};
-ghost use Rattle.checks.specs.Numbers.{numberOf};
-ghost use Rattle.chelmesut.specs.Face.{limitsOf, Inspect, Decode, ReadPatchy, WorkLimit, Predictor64, Predictor3};
-
-// The words of a handle.
-mod words;
-
-fn wide(x: u8) -> usize
-    ensures { λ r. ⌜ r ≡ x ⌝ }
-{
-    x as usize
-}
-
-fn limits_of(
-    max_input: usize,
-    max_output: usize,
-    max_dimension: usize,
-    max_directories: usize,
-    max_tags: usize,
-    max_segments: usize,
-) -> Limits
-    ensures { λ r. ⌜ r ≡ limitsOf «max_input» «max_output» «max_dimension» «max_directories» «max_tags» «max_segments» ⌝ }
-{
-    Limits {
-        max_input: max_input,
-        max_output: max_output,
-        max_dimension: max_dimension,
-        max_directories: max_directories,
-        max_tags: max_tags,
-        max_segments: max_segments,
-    }
-}
-
-// The number of a call that charges nothing.
-fn number_of(answer: Verdict) -> usize
-    ensures { λ r. ⌜ r ≡ numberOf answer ⌝ }
-{
-    match answer {
-        Verdict::Fine => 0,
-        Verdict::Refused(e) => wide(e),
-    }
-}
+ghost use Rattle.face_words.specs.Words.{limitsOf};
+ghost use Rattle.chelmesut.specs.Face.{Inspect, Decode, ReadPatchy, WorkLimit, Predictor64, Predictor3};
 
 // Strict inspection.
 #[no_mangle]
@@ -65,9 +25,11 @@ pub extern "C" fn chelmesut_inspect(
     budget: &mut usize,
     handle: &mut [usize; 17],
 ) -> usize
-    ensures { λ r. ⌜ Inspect (now (file .entry)) page (limitsOf «max_input» «max_output» «max_dimension» «max_directories» «max_tags» «max_segments») (now (budget .entry)) (now (handle .entry)) r (now (budget .exit)) (now (handle .exit)) ⌝ }
+    ensures { λ r. ⌜ Inspect (now (file .entry)) page
+        (limitsOf «max_input» «max_output» «max_dimension» «max_directories» «max_tags» «max_segments»)
+        (now (budget .entry)) (now (handle .entry)) r (now (budget .exit)) (now (handle .exit)) ⌝ }
 {
-    let limits = limits_of(
+    let limits = face_words::limits_of(
         max_input,
         max_output,
         max_dimension,
@@ -78,11 +40,11 @@ pub extern "C" fn chelmesut_inspect(
     match logluv_tiff::inspect(file, page, limits, *budget) {
         Inspected::Refused(e, u) => {
             *budget = u;
-            wide(e)
+            face_words::wide(e)
         }
         Inspected::Picture(found, u) => {
             *budget = u;
-            *handle = words::words_of(found);
+            *handle = face_words::words_of(found);
             0
         }
     }
@@ -104,9 +66,12 @@ pub extern "C" fn chelmesut_decode(
     output: &mut [u8],
     scratch: &mut [u8],
 ) -> usize
-    ensures { λ r. ⌜ Decode (now (file .entry)) page (limitsOf «max_input» «max_output» «max_dimension» «max_directories» «max_tags» «max_segments») (now (handle .entry)) (now (budget .entry)) (now (output .entry)) (now (scratch .entry)) r (now (budget .exit)) (now (output .exit)) (now (scratch .exit)) ⌝ }
+    ensures { λ r. ⌜ Decode (now (file .entry)) page
+        (limitsOf «max_input» «max_output» «max_dimension» «max_directories» «max_tags» «max_segments»)
+        (now (handle .entry)) (now (budget .entry)) (now (output .entry)) (now (scratch .entry))
+        r (now (budget .exit)) (now (output .exit)) (now (scratch .exit)) ⌝ }
 {
-    let limits = limits_of(
+    let limits = face_words::limits_of(
         max_input,
         max_output,
         max_dimension,
@@ -116,16 +81,16 @@ pub extern "C" fn chelmesut_decode(
     );
     // The inspection that the words are held to is not charged.
     match logluv_tiff::inspect(file, page, limits, usize::MAX) {
-        Inspected::Refused(_, _) => wide(INVALID),
+        Inspected::Refused(_, _) => face_words::wide(INVALID),
         Inspected::Picture(found, _) => {
-            let words = words::words_of(found);
-            if !words::same_words(&words, handle) {
-                return wide(INVALID);
+            let words = face_words::words_of(found);
+            if !face_words::same_words(&words, handle) {
+                return face_words::wide(INVALID);
             }
             match logluv_tiff::show_inspected(file, found, *budget, output, scratch) {
                 Told::Refused(e, u) => {
                     *budget = u;
-                    wide(e)
+                    face_words::wide(e)
                 }
                 Told::Passed(u) => {
                     *budget = u;
@@ -154,9 +119,13 @@ pub extern "C" fn chelmesut_read_patchy(
     quality: &mut [u8],
     answer: &mut [usize; 5],
 ) -> usize
-    ensures { λ r. ⌜ ReadPatchy (now (file .entry)) page (limitsOf «max_input» «max_output» «max_dimension» «max_directories» «max_tags» «max_segments») (now (map .entry)) (now (budget .entry)) (now (output .entry)) (now (scratch .entry)) (now (quality .entry)) (now (answer .entry)) r (now (budget .exit)) (now (output .exit)) (now (scratch .exit)) (now (quality .exit)) (now (answer .exit)) ⌝ }
+    ensures { λ r. ⌜ ReadPatchy (now (file .entry)) page
+        (limitsOf «max_input» «max_output» «max_dimension» «max_directories» «max_tags» «max_segments»)
+        (now (map .entry)) (now (budget .entry))
+        (now (output .entry)) (now (scratch .entry)) (now (quality .entry)) (now (answer .entry))
+        r (now (budget .exit)) (now (output .exit)) (now (scratch .exit)) (now (quality .exit)) (now (answer .exit)) ⌝ }
 {
-    let limits = limits_of(
+    let limits = face_words::limits_of(
         max_input,
         max_output,
         max_dimension,
@@ -167,7 +136,7 @@ pub extern "C" fn chelmesut_read_patchy(
     match patchy::read(file, map, page, limits, *budget, output, scratch, quality) {
         Reading::Refused(e, u) => {
             *budget = u;
-            wide(e)
+            face_words::wide(e)
         }
         Reading::Picture(sizes, u) => {
             *budget = u;
@@ -195,9 +164,11 @@ pub extern "C" fn chelmesut_work_limit(
     max_segments: usize,
     limit: &mut usize,
 ) -> usize
-    ensures { λ r. ⌜ WorkLimit page (limitsOf «max_input» «max_output» «max_dimension» «max_directories» «max_tags» «max_segments») (now (limit .entry)) r (now (limit .exit)) ⌝ }
+    ensures { λ r. ⌜ WorkLimit page
+        (limitsOf «max_input» «max_output» «max_dimension» «max_directories» «max_tags» «max_segments»)
+        (now (limit .entry)) r (now (limit .exit)) ⌝ }
 {
-    let limits = limits_of(
+    let limits = face_words::limits_of(
         max_input,
         max_output,
         max_dimension,
@@ -205,8 +176,8 @@ pub extern "C" fn chelmesut_work_limit(
         max_tags,
         max_segments,
     );
-    match logluv_tiff::logluv_inspection_work_limit(page, limits) {
-        Size::Over => wide(LIMIT),
+    match work_limit::logluv_inspection_work_limit(page, limits) {
+        Size::Over => face_words::wide(LIMIT),
         Size::Fits(n) => {
             *limit = n;
             0
@@ -226,9 +197,10 @@ pub extern "C" fn chelmesut_predictor64(
     predict: bool,
     output: &mut [u8],
 ) -> usize
-    ensures { λ r. ⌜ Predictor64 (now (raw .entry)) width height channels «reset_width» «little_endian» predict (now (output .entry)) r (now (output .exit)) ⌝ }
+    ensures { λ r. ⌜ Predictor64 (now (raw .entry)) width height channels «reset_width» «little_endian» predict
+        (now (output .entry)) r (now (output .exit)) ⌝ }
 {
-    number_of(float64::convert(
+    face_words::number_of(float64::convert(
         raw,
         width,
         height,
@@ -251,9 +223,10 @@ pub extern "C" fn chelmesut_predictor3(
     scratch: &mut [u8],
     output: &mut [u8],
 ) -> usize
-    ensures { λ r. ⌜ Predictor3 (now (raw .entry)) row channels «sample_bytes» «little_endian» (now (scratch .entry)) (now (output .entry)) r (now (scratch .exit)) (now (output .exit)) ⌝ }
+    ensures { λ r. ⌜ Predictor3 (now (raw .entry)) row channels «sample_bytes» «little_endian»
+        (now (scratch .entry)) (now (output .entry)) r (now (scratch .exit)) (now (output .exit)) ⌝ }
 {
-    number_of(native_fp::decode(
+    face_words::number_of(native_fp::decode(
         raw,
         row,
         channels,

@@ -1,16 +1,10 @@
 // The named forms of the readers: an image that holds the lent file, and a budget that is lent and charged in place. Each call is
 // thin: it takes these apart, calls the plain form, and puts the units left into the budget.
-use info::Info;
-use patchy::Sizes;
-use tiff::Limits;
+use header::Limits;
+use image_info::Info;
+use plain_image::Answer;
 ghost use mathlib.Core.Path.{_≡_};
-ghost use Rattle.logluv_image.specs.Image.{Inspects, Decodes, Reads};
-
-// What an image carries besides the file, and upstream's getters.
-pub mod info;
-
-// The plain forms under the named ones.
-mod plain;
+ghost use Rattle.plain_image.specs.Image.{ImageInspected, ImageDecoded, PatchyRead};
 
 // The units at hand.
 pub struct Budget {
@@ -23,12 +17,6 @@ pub struct LogluvImage<'a> {
     pub info: Info,
 }
 
-// The answer of patchy reading: 0 and the picture's sizes, or a refusal's number and sizes of 0.
-pub struct Answer {
-    pub number: u8,
-    pub sizes: Sizes,
-}
-
 // Strict inspection. The image carries the answer's number; after a refusal all else in it but the file is 0.
 pub fn inspect_logluv_tiff<'a>(
     input: &'a [u8],
@@ -36,9 +24,10 @@ pub fn inspect_logluv_tiff<'a>(
     limits: Limits,
     budget: &mut Budget,
 ) -> LogluvImage<'a>
-    ensures { λ r. ⌜ (r .input ≡ input .entry) × Inspects (now (input .entry)) page limits (now (budget .entry) .remaining) (r .info) (now (budget .exit) .remaining) ⌝ }
+    ensures { λ r. ⌜ (r .input ≡ input .entry)
+        × ImageInspected (now (input .entry)) page limits (now (budget .entry) .remaining) (r .info) (now (budget .exit) .remaining) ⌝ }
 {
-    let found = plain::inspect(input, page, limits, budget.remaining);
+    let found = plain_image::inspect(input, page, limits, budget.remaining);
     budget.remaining = found.left;
     let info = found.info;
     LogluvImage {
@@ -63,9 +52,11 @@ impl<'a> LogluvImage<'a> {
         scratch: &mut [u8],
         budget: &mut Budget,
     ) -> u8
-        ensures { λ r. ⌜ Decodes (now (self .entry .input)) (self .entry .info) (now (output .entry)) (now (scratch .entry)) (now (budget .entry) .remaining) r (now (budget .exit) .remaining) (now (output .exit)) (now (scratch .exit)) ⌝ }
+        ensures { λ r. ⌜ ImageDecoded (now (self .entry .input)) (self .entry .info)
+            (now (output .entry)) (now (scratch .entry)) (now (budget .entry) .remaining)
+            r (now (budget .exit) .remaining) (now (output .exit)) (now (scratch .exit)) ⌝ }
     {
-        let done = plain::decode(self.input, self.info, output, scratch, budget.remaining);
+        let done = plain_image::decode(self.input, self.info, output, scratch, budget.remaining);
         budget.remaining = done.left;
         done.number
     }
@@ -82,9 +73,11 @@ pub fn read_patchy(
     quality: &mut [u8],
     budget: &mut Budget,
 ) -> Answer
-    ensures { λ r. ⌜ Reads (now (file .entry)) (now (map .entry)) page limits (now (output .entry)) (now (scratch .entry)) (now (quality .entry)) (now (budget .entry) .remaining) r (now (budget .exit) .remaining) (now (output .exit)) (now (scratch .exit)) (now (quality .exit)) ⌝ }
+    ensures { λ r. ⌜ PatchyRead (now (file .entry)) (now (map .entry)) page limits
+        (now (output .entry)) (now (scratch .entry)) (now (quality .entry)) (now (budget .entry) .remaining)
+        r (now (budget .exit) .remaining) (now (output .exit)) (now (scratch .exit)) (now (quality .exit)) ⌝ }
 {
-    let taken = plain::read(
+    let taken = plain_image::read(
         file,
         map,
         page,

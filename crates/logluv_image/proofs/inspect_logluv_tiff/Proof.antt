@@ -1,5 +1,6 @@
--- `inspect_logluv_tiff` leaves the work to `plain::inspect`: a walk of its MIR, by hand. The budget's borrow is opened, its number is read, the plain form is called on a copy of the file, the page, the limits and the number,
--- the units left are stored, the image is made of the file and of what the plain form found, and the borrow is closed at the new number. What the plain form ensures is then what is asked here.
+-- `inspect_logluv_tiff` leaves the work to `plain_image::inspect`: a walk of its MIR, by hand. The budget's borrow is opened, its number is read,
+-- the plain form is called on a copy of the file, the page, the limits and the number, the units left are stored, the image is made of the file and
+-- of what the plain form found, and the borrow is closed at the new number. What the plain form ensures is then what is asked here.
 use mathlib.Core.Path.{_≡_, refl}
 use Prim.Native.Nat.{ℕ, _<_, _^_}
 use mathlib.Core.List.{[], _∷_, List}
@@ -43,26 +44,26 @@ use denote.Triple.Table.{entered, cited}
 use denote.Triple.Walked.{says, Stays, stay-ref, stay-none, stay-none-slice, walkOf, AllGo, goes-none, goes-none-slice, goes-ref, Walks, ends-at, walked, walk-meets}
 use denote.Triple.Clauses.{ensured, lasts}
 use denote.Exit.{yes}
-use Rattle.logluv_image.specs.Image.{Inspects}
+use Rattle.plain_image.specs.Image.{ImageInspected}
 use Rattle.logluv_image.specs.declared.Budget.{Budget}
-use Rattle.logluv_image.specs.declared.plain.Inspection.{Inspection}
-use Rattle.logluv_image.specs.declared.info.Info.{Info}
+use Rattle.plain_image.specs.declared.Inspection.{Inspection}
+use Rattle.image_info.specs.declared.Info.{Info}
 use Rattle.logluv_image.specs.declared.LogluvImage.{LogluvImage}
-use Rattle.tiff.specs.declared.Limits.{Limits}
-use Rattle.tiff.proofs.Limits as Q
-use Rattle.tiff.proofs.Limits.Laws as Q′
-use Rattle.logluv_image.proofs.info.Info as I
-use Rattle.logluv_image.proofs.info.Info.Laws as I′
+use Rattle.header.specs.declared.Limits.{Limits}
+use Rattle.header.proofs.Limits as Q
+use Rattle.header.proofs.Limits.Laws as Q′
+use Rattle.image_info.proofs.Info as I
+use Rattle.image_info.proofs.Info.Laws as I′
 use Rattle.logluv_image.proofs.LogluvImage as G
 use Rattle.logluv_image.proofs.LogluvImage.Laws as G′
 use Rattle.logluv_image.proofs.Budget as T
 use Rattle.logluv_image.proofs.Budget.Laws as T′
-use Rattle.logluv_image.proofs.plain.Inspection as S
-use Rattle.logluv_image.proofs.plain.Inspection.Laws as S′
-use Rattle.logluv_image.proofs.plain.inspect as core
-use Rattle.logluv_image.proofs.plain.inspect.Symbol as core-def
-use Rattle.logluv_image.proofs.plain.inspect.Symbol.{name as #plain·inspect}
-use Rattle.logluv_image.proofs.plain.inspect.Met as core-thm
+use Rattle.plain_image.proofs.Inspection as S
+use Rattle.plain_image.proofs.Inspection.Laws as S′
+use Rattle.plain_image.proofs.inspect as core
+use Rattle.plain_image.proofs.inspect.Symbol as core-def
+use Rattle.plain_image.proofs.inspect.Symbol.{name as #plain-image·inspect}
+use Rattle.plain_image.proofs.inspect.Met as core-thm
 use Rattle.logluv_image.proofs.inspect_logluv_tiff.Key.{name as #inspect-logluv-tiff}
 use Rattle.logluv_image.proofs.inspect_logluv_tiff as f
 use Rattle.logluv_image.proofs.inspect_logluv_tiff.Statement as stated
@@ -121,7 +122,7 @@ module _ {M : Type 1} (𝓤 : URA M) (H : Heap 𝓤) (A : Atoms 𝓤) (W : Given
 
   -- what the callee ensures of its result
   abbrev Said : Inspection → Type 0
-  Said r = Inspects (now s) n l (h .remaining) (r .info) (r .left)
+  Said r = ImageInspected (now s) n l (h .remaining) (r .info) (r .left)
 
   said : (r : Inspection) → ent 𝓤 (ensured 𝓤 H A core.ended (core.clauses 𝓤 H A at-mem run) (κ, tt) args tt r) (fact 𝓤 (Said r))
   said r = exE 𝓤 _ (λ ws. snd∗ 𝓤 (sem 𝓤 H A (lasts core.ended (κ, tt) args ws)) (fact 𝓤 (Said r)))
@@ -142,7 +143,7 @@ module _ {M : Type 1} (𝓤 : URA M) (H : Heap 𝓤) (A : Atoms 𝓤) (W : Given
   abbrev wi : (r : Inspection) (us : List Val) (is : Is S.the-row r us) → Holds (hasTy I′.mir (I′.lowered (r .info))) × WT (I′.lowered (r .info))
   wi r us is = LL.lawful I.the-type I′.the-laws 𝓤 H A W .typed (r .info) _ (LL.owed S.the-type S′.the-laws r us is .0) .0
 
-  module _ (C : Calls 𝓤 H) (Λ : Loops 𝓤 H) (fm : FmC 𝓤 H (W .laws) C) (known : Triple 𝓤 (C #plain·inspect) (Core 𝓤 H A at-mem run)) where
+  module _ (C : Calls 𝓤 H) (Λ : Loops 𝓤 H) (fm : FmC 𝓤 H (W .laws) C) (known : Triple 𝓤 (C #plain-image·inspect) (Core 𝓤 H A at-mem run)) where
     walk : Is (ShrSlice (named 0) κ u8) s (v ∷ []) → n < 2 ^ 64 → Is Q.the-row l (Q′.lowered l ∷ []) → ent 𝓤 (onEntry 𝓤 H A f.signature (κ, (κ′, tt)) (q, (q′, tt)) x at) (WpFn 𝓤 H C Λ code.function (v ∷ vint w64 n ∷ Q′.lowered l ∷ vptr b o ∷ []) Post)
     walk p gn ll =
         qed W ((‵ (flft κ q) ⊛ ‵ (flft κ′ q′) ⊛ ‵ ftrue) ∷ ‵ (owns (ShrSlice (named 0) κ u8 ∷ usize ∷ Q.the-row ∷ MutRef (named 1) κ′ T.the-row ∷ []) x at) ∷ []) ∵ enter ! C Λ code.function (v ∷ vint w64 n ∷ Q′.lowered l ∷ vptr b o ∷ []) _ $
@@ -177,7 +178,7 @@ module _ {M : Type 1} (𝓤 : URA M) (H : Heap 𝓤) (A : Atoms 𝓤) (W : Given
         keep ! (0 ∷ 1 ∷ 2 ∷ 3 ∷ 4 ∷ []) $ by ! (exits r e gn ll (LL.owed S.the-type S′.the-laws r _ is .0))))))))))))))))
 
 module _ {M : Type 1} (𝓤 : URA M) (H : Heap 𝓤) (A : Atoms 𝓤) (W : Given 𝓤 H A) (at-mem : Memory → SProp 𝓤) (run : Routine → Fun 𝓤) where
-  inspect-walks : (C : Calls 𝓤 H) (Λ : Loops 𝓤 H) → FmC 𝓤 H (W .laws) C → Triple 𝓤 (C #plain·inspect) (Core 𝓤 H A at-mem run)
+  inspect-walks : (C : Calls 𝓤 H) (Λ : Loops 𝓤 H) → FmC 𝓤 H (W .laws) C → Triple 𝓤 (C #plain-image·inspect) (Core 𝓤 H A at-mem run)
       → Walks 𝓤 H A f.ended stayed (WpFn 𝓤 H C Λ code.function) (f.clauses 𝓤 H A at-mem run)
   inspect-walks C Λ fm known = walked 𝓤 H A f.ended stayed (f.clauses 𝓤 H A at-mem run) (WpFn 𝓤 H C Λ code.function) (λ κs. (slice-vals, (uint-vals w64, (LL.vals Q.the-type Q′.the-laws, (ptr-vals, tt))))) (λ κs. (shr-slice-tells (named 0) (κs .0) u8, (uint-tells w64, (LL.tells Q.the-type Q′.the-laws, (mut-tells (named 1) (κs .1 .0) T.the-row, tt)))))
       (λ κs qs bounds a _ are. via 𝓤 _ (fst∗ 𝓤 _ (emp 𝓤)) (walk 𝓤 H A W at-mem run (κs .0) (κs .1 .0) bounds (qs .0) (qs .1 .0) (a .0) (a .1 .0) (a .1 .1 .0) (a .1 .1 .1 .0 .ptr .0) (a .1 .1 .1 .0 .ptr .1) (a .1 .1 .1 .0 .name) (a .1 .1 .1 .0 .now) C Λ fm known (are .0) (are .1 .0 .1) (are .1 .1 .0)))
@@ -186,7 +187,7 @@ module _ {M : Type 1} (𝓤 : URA M) (H : Heap 𝓤) (A : Atoms 𝓤) (W : Given
   goes = (goes-none-slice 𝓤 H A W 2 (0 ∷ []) tt (plain (λ _. u8)) yes, (goes-none 𝓤 H A W 2 (λ _. usize) yes (λ κs x f. refl), (goes-none 𝓤 H A W 2 (λ _. Q.the-row) yes (λ κs x f. refl), (goes-ref 𝓤 H A W 2 1 tt (plain (λ _. T.the-row)), tt))))
 
 inspect-meets : {M : Type 1} (𝓤 : URA M) (H : Heap 𝓤) (A : Atoms 𝓤) (W : Given 𝓤 H A) (at-mem : Memory → SProp 𝓤) (run : Routine → Fun 𝓤) (𝓣 : Tables 𝓤 H)
-    → Triple 𝓤 (𝓣 .C #plain·inspect) (Core 𝓤 H A at-mem run)
+    → Triple 𝓤 (𝓣 .C #plain-image·inspect) (Core 𝓤 H A at-mem run)
     → Meets 𝓤 H A f.signature (WpFn 𝓤 H (𝓣 .C) (𝓣 .Λ) code.function) (f.spec 𝓤 H A at-mem run)
 inspect-meets 𝓤 H A W at-mem run 𝓣 known = walk-meets 𝓤 H A f.ended stayed W (goes 𝓤 H A W at-mem run) (f.clauses 𝓤 H A at-mem run) (WpFn 𝓤 H (𝓣 .C) (𝓣 .Λ) code.function) (WpFn-mono 𝓤 H (W .laws) 𝓣 code.function) (inspect-walks 𝓤 H A W at-mem run (𝓣 .C) (𝓣 .Λ) (fmOf 𝓤 H (W .laws) 𝓣) known)
 
@@ -196,4 +197,4 @@ inspect-logluv-tiff-spec 𝓤 H 𝓜 𝓖 𝓡 =
     entered 𝓤 H (tripleOf 𝓤 H (𝓖 .A) f.signature (f.spec 𝓤 H (𝓖 .A) (𝓜 .mem) (𝓡 .run)))
     (tables 𝓤 H 𝓜 𝓡 code.env .C) (tables 𝓤 H 𝓜 𝓡 code.env .Λ) #inspect-logluv-tiff code.function (code.unfolded 𝓤 H 𝓜 𝓡)
     (inspect-meets 𝓤 H (𝓖 .A) (givenOf 𝓤 H 𝓜 𝓖) (𝓜 .mem) (𝓡 .run) (tablesOf 𝓤 H 𝓜 (tables 𝓤 H 𝓜 𝓡 code.env))
-    (cited 𝓤 H (Core 𝓤 H (𝓖 .A) (𝓜 .mem) (𝓡 .run)) 𝓜 𝓡 code.env #plain·inspect core-def.routine code.calls-logluv-image·plain·inspect (core-thm.met 𝓤 H 𝓜 𝓖 𝓡)))
+    (cited 𝓤 H (Core 𝓤 H (𝓖 .A) (𝓜 .mem) (𝓡 .run)) 𝓜 𝓡 code.env #plain-image·inspect core-def.routine code.calls-plain-image·inspect (core-thm.met 𝓤 H 𝓜 𝓖 𝓡)))

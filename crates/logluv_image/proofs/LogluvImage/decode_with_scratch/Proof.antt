@@ -1,5 +1,6 @@
--- `LogluvImage::decode_with_scratch` does what `plain::decode` says: the image is taken apart, the units at hand are read from the budget, and `plain::decode` is called on the file, what the image carries, the two buffers and the units.
--- The units that it leaves are stored into the budget, and its number is the answer. The image is Copy: one copy is kept whole for the exit.
+-- `LogluvImage::decode_with_scratch` does what `plain_image::decode` says: the image is taken apart, the units at hand are read from the budget, and
+-- `plain_image::decode` is called on the file, what the image carries, the two buffers and the units. The units that it leaves are stored into the
+-- budget, and its number is the answer. The image is Copy: one copy is kept whole for the exit.
 use mathlib.Core.Path.{_≡_, refl}
 use Prim.Native.Nat.{ℕ, _<_, _^_}
 use mathlib.Core.List.{[], _∷_, List}
@@ -44,23 +45,23 @@ use denote.Triple.Table.{entered, cited}
 use denote.Triple.Walked.{says, Stays, stay-ref, stay-none, gave-slice, walkOf, AllGo, goes-none, goes-gave-slice, goes-ref, Walks, ends-at, walked, walk-meets}
 use denote.Triple.Clauses.{ensured, lasts}
 use denote.Exit.{yes}
-use Rattle.logluv_image.specs.Image.{Decodes}
+use Rattle.plain_image.specs.Image.{ImageDecoded}
 use Rattle.logluv_image.specs.declared.Budget.{Budget}
 use Rattle.logluv_image.specs.declared.LogluvImage.{LogluvImage}
-use Rattle.logluv_image.specs.declared.info.Info.{Info}
-use Rattle.logluv_image.specs.declared.plain.Decoded.{Decoded}
-use Rattle.logluv_image.proofs.info.Info as I
-use Rattle.logluv_image.proofs.info.Info.Laws as I′
+use Rattle.image_info.specs.declared.Info.{Info}
+use Rattle.plain_image.specs.declared.Decoded.{Decoded}
+use Rattle.image_info.proofs.Info as I
+use Rattle.image_info.proofs.Info.Laws as I′
 use Rattle.logluv_image.proofs.LogluvImage as G
 use Rattle.logluv_image.proofs.LogluvImage.Laws as G′
 use Rattle.logluv_image.proofs.Budget as T
 use Rattle.logluv_image.proofs.Budget.Laws as T′
-use Rattle.logluv_image.proofs.plain.Decoded as S
-use Rattle.logluv_image.proofs.plain.Decoded.Laws as S′
-use Rattle.logluv_image.proofs.plain.decode as core
-use Rattle.logluv_image.proofs.plain.decode.Symbol as core-def
-use Rattle.logluv_image.proofs.plain.decode.Symbol.{name as #plain·decode}
-use Rattle.logluv_image.proofs.plain.decode.Met as core-thm
+use Rattle.plain_image.proofs.Decoded as S
+use Rattle.plain_image.proofs.Decoded.Laws as S′
+use Rattle.plain_image.proofs.decode as core
+use Rattle.plain_image.proofs.decode.Symbol as core-def
+use Rattle.plain_image.proofs.decode.Symbol.{name as #plain-image·decode}
+use Rattle.plain_image.proofs.decode.Met as core-thm
 use Rattle.logluv_image.proofs.LogluvImage.decode_with_scratch.Key.{name as #decode-with-scratch}
 use Rattle.logluv_image.proofs.LogluvImage.decode_with_scratch as f
 use Rattle.logluv_image.proofs.LogluvImage.decode_with_scratch.Statement as stated
@@ -162,9 +163,9 @@ module _ {M : Type 1} (𝓤 : URA M) (H : Heap 𝓤) (A : Atoms 𝓤) (W : Given
   asked : ent 𝓤 (onEntry 𝓤 H A core.signature κs′ qs′ args passed) (Core 𝓤 H A at-mem run .pre to)
   asked = qed W (Tokens ∷ ‵ (owns (ShrSlice (named 0) κ u8 ∷ I.the-row ∷ MutSlice (named 1) κ₁ u8 ∷ MutSlice (named 2) κ₂ u8 ∷ usize ∷ []) args passed) ∷ []) ∵ join ! $ frame ! $ done !
 
-  -- what `plain::decode` ensures of its answer and of the last lists of the output and the scratch
+  -- what `plain_image::decode` ensures of its answer and of the last lists of the output and the scratch
   abbrev Said : Decoded → List ℕ → List ℕ → Type 0
-  Said r out cleared = Decodes (now s) (d .info) (now y) (now z) (h .remaining) (r .number) (r .left) out cleared
+  Said r out cleared = ImageDecoded (now s) (d .info) (now y) (now z) (h .remaining) (r .number) (r .left) out cleared
 
   -- what the walk has at the exit
   abbrev Left : Decoded → List ℕ → List ℕ → List (Item 𝓤)
@@ -181,7 +182,7 @@ module _ {M : Type 1} (𝓤 : URA M) (H : Heap 𝓤) (A : Atoms 𝓤) (W : Given
       feqI ! (List Val) (vptr b o ∷ []) (vptr b o ∷ []) refl $ fjoin3 ! $ nothing ! $ move ! (1 ∷ 0 ∷ []) $ fjoin ! $ move ! (1 ∷ 0 ∷ []) $ fjoin ! $ move ! (1 ∷ 0 ∷ []) $ fjoin ! $ move ! (1 ∷ 0 ∷ []) $ fjoin ! $
       owned ! u8 (Is u8) (uint-makes 𝓤 H A W w8) (r .number) _ (refl, cf) $ move ! (1 ∷ 0 ∷ []) $ done !
 
-  module _ (C : Calls 𝓤 H) (Λ : Loops 𝓤 H) (fm : FmC 𝓤 H (W .laws) C) (known : Triple 𝓤 (C #plain·decode) (Core 𝓤 H A at-mem run)) where
+  module _ (C : Calls 𝓤 H) (Λ : Loops 𝓤 H) (fm : FmC 𝓤 H (W .laws) C) (known : Triple 𝓤 (C #plain-image·decode) (Core 𝓤 H A at-mem run)) where
     walk : Is (B κs) d (held ∷ []) → Is (MutSlice (named 1) κ₁ u8) y (vy ∷ []) → Is (MutSlice (named 2) κ₂ u8) z (vz ∷ []) → ent 𝓤 (onEntry 𝓤 H A f.signature κs qs x at) (WpFn 𝓤 H C Λ code.function (held ∷ vy ∷ vz ∷ vptr b o ∷ []) Post)
     walk p py pz =
         let wt = LL.lawful D L 𝓤 H A W .typed d (held ∷ []) p .0 in
@@ -226,7 +227,7 @@ module _ {M : Type 1} (𝓤 : URA M) (H : Heap 𝓤) (A : Atoms 𝓤) (W : Given
         keep ! (0 ∷ 1 ∷ 2 ∷ 3 ∷ 4 ∷ 6 ∷ 7 ∷ []) $ by ! (exits r (zs .1 .1 .0) (zs .1 .1 .1 .0) e ly lz (LL.owed S.the-type S′.the-laws r _ is .0 .1)))))))))))))))))))))))))
 
 module _ {M : Type 1} (𝓤 : URA M) (H : Heap 𝓤) (A : Atoms 𝓤) (W : Given 𝓤 H A) (at-mem : Memory → SProp 𝓤) (run : Routine → Fun 𝓤) where
-  decode-walks : (C : Calls 𝓤 H) (Λ : Loops 𝓤 H) → FmC 𝓤 H (W .laws) C → Triple 𝓤 (C #plain·decode) (Core 𝓤 H A at-mem run)
+  decode-walks : (C : Calls 𝓤 H) (Λ : Loops 𝓤 H) → FmC 𝓤 H (W .laws) C → Triple 𝓤 (C #plain-image·decode) (Core 𝓤 H A at-mem run)
       → Walks 𝓤 H A f.ended stayed (WpFn 𝓤 H C Λ code.function) (f.clauses 𝓤 H A at-mem run)
   decode-walks C Λ fm known =
       walked 𝓤 H A f.ended stayed (f.clauses 𝓤 H A at-mem run) (WpFn 𝓤 H C Λ code.function)
@@ -238,7 +239,7 @@ module _ {M : Type 1} (𝓤 : URA M) (H : Heap 𝓤) (A : Atoms 𝓤) (W : Given
   goes = (goes-none 𝓤 H A W 4 B yes (λ κs x f. refl), (goes-gave-slice 𝓤 H A W 4 1 tt (plain (λ _. u8)), (goes-gave-slice 𝓤 H A W 4 2 tt (plain (λ _. u8)), (goes-ref 𝓤 H A W 4 3 tt (plain (λ _. T.the-row)), tt))))
 
 decode-meets : {M : Type 1} (𝓤 : URA M) (H : Heap 𝓤) (A : Atoms 𝓤) (W : Given 𝓤 H A) (at-mem : Memory → SProp 𝓤) (run : Routine → Fun 𝓤) (𝓣 : Tables 𝓤 H)
-    → Triple 𝓤 (𝓣 .C #plain·decode) (Core 𝓤 H A at-mem run)
+    → Triple 𝓤 (𝓣 .C #plain-image·decode) (Core 𝓤 H A at-mem run)
     → Meets 𝓤 H A f.signature (WpFn 𝓤 H (𝓣 .C) (𝓣 .Λ) code.function) (f.spec 𝓤 H A at-mem run)
 decode-meets 𝓤 H A W at-mem run 𝓣 known = walk-meets 𝓤 H A f.ended stayed W (goes 𝓤 H A W at-mem run) (f.clauses 𝓤 H A at-mem run) (WpFn 𝓤 H (𝓣 .C) (𝓣 .Λ) code.function) (WpFn-mono 𝓤 H (W .laws) 𝓣 code.function) (decode-walks 𝓤 H A W at-mem run (𝓣 .C) (𝓣 .Λ) (fmOf 𝓤 H (W .laws) 𝓣) known)
 
@@ -248,4 +249,4 @@ decode-with-scratch-spec 𝓤 H 𝓜 𝓖 𝓡 =
     entered 𝓤 H (tripleOf 𝓤 H (𝓖 .A) f.signature (f.spec 𝓤 H (𝓖 .A) (𝓜 .mem) (𝓡 .run)))
     (tables 𝓤 H 𝓜 𝓡 code.env .C) (tables 𝓤 H 𝓜 𝓡 code.env .Λ) #decode-with-scratch code.function (code.unfolded 𝓤 H 𝓜 𝓡)
     (decode-meets 𝓤 H (𝓖 .A) (givenOf 𝓤 H 𝓜 𝓖) (𝓜 .mem) (𝓡 .run) (tablesOf 𝓤 H 𝓜 (tables 𝓤 H 𝓜 𝓡 code.env))
-    (cited 𝓤 H (Core 𝓤 H (𝓖 .A) (𝓜 .mem) (𝓡 .run)) 𝓜 𝓡 code.env #plain·decode core-def.routine code.calls-logluv-image·plain·decode (core-thm.met 𝓤 H 𝓜 𝓖 𝓡)))
+    (cited 𝓤 H (Core 𝓤 H (𝓖 .A) (𝓜 .mem) (𝓡 .run)) 𝓜 𝓡 code.env #plain-image·decode core-def.routine code.calls-plain-image·decode (core-thm.met 𝓤 H 𝓜 𝓖 𝓡)))
