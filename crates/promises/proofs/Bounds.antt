@@ -5,35 +5,38 @@ use mathlib.Core.List.{List}
 use mathlib.Core.Bool.{Bool, true, false, not}
 use native.Mathlib.Omega.{arith}
 use native.Mathlib.Nat.{mul-le-mul-left, mul-le-mul-right, zero-div}
-use lib.ListN.{getD}
-use lib.Dec.{eqb}
 use borrow.Author.Tests.{eqb-true, eqb-false}
 use Rattle.checks.specs.Sizes.{within}
 use Rattle.checks.specs.declared.Size.the-variants.{Fits}
 use Rattle.checks.proofs.Sizes.{fits-is}
 use Rattle.seen.specs.Seen.{Seen}
-use Rattle.tiff.specs.Header.{big, firstOf}
+use Rattle.header.specs.Header.{bigEndian, firstOf}
 use Rattle.tiff.specs.Directory.{entriesAt, nextAt, slotsAt}
 use Rattle.tiff.specs.Walk.{pageAt}
-use Rattle.tiff.specs.declared.Limits.{Limits}
+use Rattle.header.specs.declared.Limits.{Limits}
 use Rattle.geometry.proofs.Cutting.{rows-tiled, rows-full, rows-le}
-use Rattle.logluv_format.specs.Profile.{numbersOf, shapeOf, formatIn, formatOf}
+use Rattle.tiff.specs.Slots.{tileOffsets, entryIn, absent}
+use Rattle.profile.specs.Profile.{numbersOf, shapeOf, formatWith, formatOf}
 use Rattle.front.specs.Front.{formatSeen}
-use Rattle.logluv_format.specs.Readable.{Valid}
-use Rattle.logluv_format.specs.declared.Format.{Format}
-use Rattle.front.specs.Container.{walkFee}
-use Rattle.front.specs.Accepted.{ProfileFine}
-use Rattle.logluv_segment.specs.Segment.{rowsIn, scratchOf, feeOf, feesOf}
-use Rattle.logluv_tiff.specs.WorkLimit.{workBound}
-use Rattle.logluv_tiff.specs.declared.Handle.{Handle}
-use Rattle.promises.specs.Strict.{SegmentFine, PictureFine, chargeOf, Inspects, Largest}
+use Rattle.picture.specs.Inner.{Valid}
+use Rattle.picture.specs.declared.Format.{Format}
+use Rattle.tiff.specs.Container.{walkFee}
+use Rattle.profile.specs.Accepted.{ProfileFine}
+use Rattle.picture.specs.Picture.{rowsIn, scratchOf}
+use Rattle.plan.specs.Plan.{feeOf}
+use Rattle.logluv_segment.specs.Segment.{feesOf}
+use Rattle.work_limit.specs.WorkLimit.{workBound}
+use Rattle.handle.specs.declared.Handle.{Handle}
+use Rattle.promises.specs.Strict.{SegmentFine, PictureFine, inspectionCharge, Inspects, Largest}
 use Rattle.promises.proofs.Strict.{page-valid}
 
 -- each directory up to the page has at most so many entries
-pub walk-bound : (v : Seen) (b : Bool) (maxTags page first : ℕ) → ((i : ℕ) → i ≤ page → entriesAt v b (pageAt v b i first) ≤ maxTags) → walkFee v b page first ≤ (page + 1) * (maxTags + 1)
+pub walk-bound : (v : Seen) (b : Bool) (maxTags page first : ℕ) → ((i : ℕ) → i ≤ page → entriesAt v b (pageAt v b i first) ≤ maxTags)
+    → walkFee v b page first ≤ (page + 1) * (maxTags + 1)
 unfolding walkFee pageAt
 walk-bound v b maxTags zero first few = omega (arith, few 0 (omega arith))
-walk-bound v b maxTags (suc page) first few = omega (arith, few 0 (omega arith), walk-bound v b maxTags page (nextAt v b first) (λ i l. few (suc i) (omega arith)))
+walk-bound v b maxTags (suc page) first few =
+    omega (arith, few 0 (omega arith), walk-bound v b maxTags page (nextAt v b first) (λ i l. few (suc i) (omega arith)))
 
 -- no fee is above the file's size, twice the output's limit and one more
 module _ (v : Seen) (f : Format) (maxInput maxOutput : ℕ) (small : v .size ≤ maxInput) where
@@ -47,30 +50,32 @@ module _ (v : Seen) (f : Format) (maxInput maxOutput : ℕ) (small : v .size ≤
       omega (arith, fee-bound k (fine k (omega arith) (omega arith)), fees-bound n (suc k) (λ j a b. fine j (omega arith) (omega arith)))
 
 -- the profile allows no more segments
-pub few-segments : (v : Seen) (b : Bool) (entries : ℕ) (slots : List ℕ) (l : Limits) → ProfileFine v b slots l → formatOf v b entries slots .segments ≤ l .«max_segments»
-unfolding formatIn shapeOf
-few-segments v b entries slots l p = by (eqb (getD slots 15 0) 0) refl
+pub few-segments : (v : Seen) (b : Bool) (entries : ℕ) (slots : List ℕ) (l : Limits) → ProfileFine v b slots l
+    → formatOf v b entries slots .segments ≤ l .«max_segments»
+unfolding formatWith shapeOf
+few-segments v b entries slots l p = by (absent (entryIn slots tileOffsets)) refl
   where
-    by : (t : Bool) → eqb (getD slots 15 0) 0 ≡ t → formatIn v b entries slots (shapeOf (numbersOf v b slots) (not t)) .segments ≤ l .«max_segments»
-    by true e = p .strips (eqb-true (getD slots 15 0) 0 e) .blocks .segments-allowed
-    by false e = p .tiles (eqb-false (getD slots 15 0) 0 e) .blocks .segments-allowed
+    by : (t : Bool) → absent (entryIn slots tileOffsets) ≡ t → formatWith b entries slots (shapeOf (numbersOf v b slots) (not t)) .segments ≤ l .«max_segments»
+    by true e = p .strips (eqb-true (entryIn slots tileOffsets) 0 e) .blocks .segments-allowed
+    by false e = p .tiles (eqb-false (entryIn slots tileOffsets) 0 e) .blocks .segments-allowed
 
 -- the three parts of the bound, each above its part of the charge
-pub bound-covers : (v : Seen) (page : ℕ) (l : Limits) → PictureFine v page l → chargeOf v page ≤ workBound page l
+pub bound-covers : (v : Seen) (page : ℕ) (l : Limits) → PictureFine v page l → inspectionCharge v page ≤ workBound page l
 unfolding workBound
 bound-covers v page l p =
     let f = formatSeen v page in
-    let at = pageAt v (big v) page (firstOf v) in
+    let at = pageAt v (bigEndian v) page (firstOf v) in
     let each = l .«max_input» + 2 * l .«max_output» + 1 in
     omega (
       arith,
-      walk-bound v (big v) (l .«max_tags») page (firstOf v) (λ k a. p .page-fine .directories .is-fine k a .few-entries),
+      walk-bound v (bigEndian v) (l .«max_tags») page (firstOf v) (λ k a. p .page-fine .directories .is-fine k a .few-entries),
       fees-bound v f (l .«max_input») (l .«max_output») (p .page-fine .input-allowed) (f .segments) 0 (λ k a b. p .each-segment k (omega arith)),
-      mul-le-mul-right {m = f .segments} {n = l .«max_segments»} each (few-segments v (big v) (entriesAt v (big v) at) (slotsAt v (big v) at) l (p .page-fine .profile)),
+      mul-le-mul-right {m = f .segments} {n = l .«max_segments»} each
+          (few-segments v (bigEndian v) (entriesAt v (bigEndian v) at) (slotsAt v (bigEndian v) at) l (p .page-fine .profile)),
     )
 
 -- so the work limit, where it answers, covers the charge
-pub limit-covers : (v : Seen) (page : ℕ) (l : Limits) (n : ℕ) → within (workBound page l) ≡ Fits n → PictureFine v page l → chargeOf v page ≤ n
+pub limit-covers : (v : Seen) (page : ℕ) (l : Limits) (n : ℕ) → within (workBound page l) ≡ Fits n → PictureFine v page l → inspectionCharge v page ≤ n
 limit-covers v page l n e p = omega (arith, bound-covers v page l p, fits-is (workBound page l) n refl e .is)
 
 -- a picture's first segment has all rows of a block
@@ -79,7 +84,8 @@ first-rows f ok = by (f .tiled) refl
   where
     by : (t : Bool) → f .tiled ≡ t → rowsIn f 0 ≡ f .«block_height»
     by true e = sym (rows-tiled (f .tiled) (f .height) (f .«block_height») (f .across) 0 e)
-    by false e = sym (rows-full (f .tiled) (f .height) (f .«block_height») (f .across) 0 e (f .height) (rw (zero-div (f .across)) (omega arith)) (ok .strip-height e))
+    by false e =
+        sym (rows-full (f .tiled) (f .height) (f .«block_height») (f .across) 0 e (f .height) (rw (zero-div (f .across)) (omega arith)) (ok .strip-height e))
 
 pub scratch-largest : (f : Format) → Valid f → Largest f (scratchOf f)
 scratch-largest f ok = record {

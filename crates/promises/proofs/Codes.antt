@@ -13,12 +13,14 @@ use Rattle.checks.specs.Checks.{verdict, Holds, cost, Never}
 use Rattle.checks.specs.declared.Verdict.{Verdict}
 use Rattle.checks.specs.declared.Verdict.the-variants as verdict-is
 use Rattle.checks.proofs.Exact.{refused-fine, fine, run-refused, never}
-use Rattle.checks.proofs.Refusals.{RefusedAt, refused-free}
+use Rattle.checks.specs.Exact.{RefusedAt}
+use Rattle.checks.proofs.Refusals.{refused-free}
 use Rattle.seen.specs.Seen.{Seen}
-use Rattle.logluv_format.specs.declared.Format.{Format}
-use Rattle.logluv_segment.specs.Segment.{offsetOf, countOf, placeChecks, feeOf, storedChecks}
-use Rattle.logluv_segment.specs.Shown.{shown}
-use Rattle.quality.specs.Quality.{judged, codeIs, whereGood, qualityIs, codeOf, chargeOf, showsOf}
+use Rattle.picture.specs.declared.Format.{Format}
+use Rattle.plan.specs.Plan.{offsetOf, countOf, placeChecks, feeOf}
+use Rattle.logluv_segment.specs.Segment.{storedChecks}
+use Rattle.showing.specs.Shown.{shown}
+use Rattle.quality.specs.Quality.{judged, codeIs, whereGood, qualityIs, codeOf, segmentCharge, showsOf}
 use Rattle.quality.specs.declared.Quality.{Quality}
 use Rattle.quality.specs.declared.Quality.the-variants as quality-is
 use Rattle.promises.specs.Strict.{Good}
@@ -58,7 +60,8 @@ module _ (offset count : ℕ) where
   is-good (verdict-is.Refused n) packets = (λ e. absurd (never-good (eqb n truncated) e), λ p. absurd (refused-fine n (p .0)))
 
   -- granted that a place is refused with no number but 1 and 8
-  is-missing : (place packets : Verdict) → ((n : ℕ) → place ≡ verdict-is.Refused n → eqb n truncated ≡ false → n ≡ notArrived) → (code place packets ≡ 2) ↔ (place ≡ verdict-is.Refused notArrived)
+  is-missing : (place packets : Verdict) → ((n : ℕ) → place ≡ verdict-is.Refused n → eqb n truncated ≡ false → n ≡ notArrived) → (code place packets ≡ 2)
+      ↔ (place ≡ verdict-is.Refused notArrived)
   is-missing verdict-is.Fine verdict-is.Fine only = (λ e. absurd (omega arith), λ q. absurd (refused-fine notArrived (sym q)))
   is-missing verdict-is.Fine (verdict-is.Refused n) only = (λ e. absurd (omega arith), λ q. absurd (refused-fine notArrived (sym q)))
   is-missing (verdict-is.Refused n) packets only = (
@@ -94,7 +97,8 @@ module _ (v : Seen) (f : Format) (k : ℕ) where
       by : (t : Bool) → eqb n notArrived ≡ t → n ≡ notArrived
       by true t = eqb-true n notArrived t
       by false t =
-          absurd (never n (placeChecks v f k) 0 0 (never-other n (λ z. eqb-false n truncated other (sym z)) (λ z. eqb-false n notArrived t (sym z))) (run-refused (placeChecks v f k) 0 n place-free q))
+          absurd (never n (placeChecks v f k) 0 0 (never-other n (λ z. eqb-false n truncated other (sym z)) (λ z. eqb-false n notArrived t (sym z)))
+          (run-refused (placeChecks v f k) 0 n place-free q))
 
   -- 1: the segment is good
   pub code-good : (codeOf v f k ≡ 1) ↔ Good v f k
@@ -107,26 +111,29 @@ module _ (v : Seen) (f : Format) (k : ℕ) where
   pub code-missing : (codeOf v f k ≡ 2) ↔ RefusedAt (placeChecks v f k) 0 notArrived 0
   unfolding qualityIs
   code-missing =
-      Iff·trans (is-missing (offsetOf v f k) (countOf v f k) (verdict (placeChecks v f k)) (verdict (storedChecks v f k)) not-outside) (refused-free (placeChecks v f k) notArrived place-free)
+      Iff·trans (is-missing (offsetOf v f k) (countOf v f k) (verdict (placeChecks v f k)) (verdict (storedChecks v f k)) not-outside)
+      (refused-free (placeChecks v f k) notArrived place-free)
 
   -- 3: the first of these that can't be read lies outside the file
   pub code-outside : (codeOf v f k ≡ 3) ↔ RefusedAt (placeChecks v f k) 0 truncated 0
   unfolding qualityIs
   code-outside =
-      Iff·trans (is-outside (offsetOf v f k) (countOf v f k) (verdict (placeChecks v f k)) (verdict (storedChecks v f k))) (refused-free (placeChecks v f k) truncated place-free)
+      Iff·trans (is-outside (offsetOf v f k) (countOf v f k) (verdict (placeChecks v f k)) (verdict (storedChecks v f k)))
+      (refused-free (placeChecks v f k) truncated place-free)
 
   -- 4: all three can be read, and the packets are not accepted
   pub code-rejected : (codeOf v f k ≡ 4) ↔ (Holds (placeChecks v f k) × (Holds (storedChecks v f k) → ⊥))
   unfolding qualityIs
   code-rejected =
-      Iff·trans (is-rejected (offsetOf v f k) (countOf v f k) (verdict (placeChecks v f k)) (verdict (storedChecks v f k))) (Iff·and (fine (placeChecks v f k)) (Iff·not (fine (storedChecks v f k))))
+      Iff·trans (is-rejected (offsetOf v f k) (countOf v f k) (verdict (placeChecks v f k)) (verdict (storedChecks v f k)))
+      (Iff·and (fine (placeChecks v f k)) (Iff·not (fine (storedChecks v f k))))
 
   is-good-quality : Good v f k → qualityIs v f k ≡ quality-is.Good (offsetOf v f k) (countOf v f k)
   unfolding qualityIs
   is-good-quality g = let p = good-fine v f k .1 g in rw (fine (placeChecks v f k) .1 (p .0), fine (storedChecks v f k) .1 (p .1))
 
   -- a good segment is charged its fee and shows its pixels
-  pub good-charged : Good v f k → chargeOf v f k ≡ feeOf v f k
+  pub good-charged : Good v f k → segmentCharge v f k ≡ feeOf v f k
   good-charged g = rw (is-good-quality g)
 
   pub good-shown : Good v f k → showsOf v f k ≡ shown v f k

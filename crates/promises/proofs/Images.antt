@@ -14,14 +14,14 @@ use Rattle.checks.specs.declared.Told.the-variants as told-is
 use Rattle.checks.proofs.Exact.{accepted}
 use Rattle.checks.proofs.Rules.{must-no, must-yes}
 use Rattle.seen.specs.Seen.{Seen, seen}
-use Rattle.tiff.specs.declared.Limits.{Limits}
-use Rattle.logluv_tiff.specs.Strict.{inspectedOf, isHandle, decodeChecks}
-use Rattle.logluv_tiff.specs.declared.Handle.{Handle}
-use Rattle.logluv_tiff.specs.declared.Inspected.the-variants as inspected-is
-use Rattle.logluv_image.specs.Image.{noLimits, noHandle, refused, infoOf, imageChecks, decodeTold}
-use Rattle.logluv_image.specs.declared.info.Info.{Info}
+use Rattle.header.specs.declared.Limits.{Limits}
+use Rattle.inspection.specs.Inspection.{inspectedOf, isHandle}
+use Rattle.decoding.specs.Strict.{decodeChecks}
+use Rattle.handle.specs.declared.Handle.{Handle}
+use Rattle.handle.specs.declared.Inspected.the-variants as inspected-is
+use Rattle.plain_image.specs.Image.{noLimits, noHandle, refused, infoOf, imageChecks, imageDecodeTold}
+use Rattle.image_info.specs.declared.Info.{Info}
 use Rattle.promises.specs.Strict.{Decodes}
-use Rattle.promises.proofs.Strict.{inspection-exact}
 use Rattle.promises.proofs.Handles.{handle-exact, decode-exact}
 
 -- no page is below a limit of 0 directories, so what a refusal leaves is no handle
@@ -30,20 +30,21 @@ none-given v = by (isHandle v noLimits noHandle) refl
   where
     by : (t : Bool) → isHandle v noLimits noHandle ≡ t → t ≡ false
     by true q =
-        let g = handle-exact v noLimits noHandle .0 q in
-        let none : 0 < 0 = inspection-exact v 0 noLimits 18446744073709551615 (g .0) noHandle .0 (g .1) .fine .page-fine .page-allowed in
+        let none : 0 < 0 = handle-exact v noLimits noHandle .0 q .fine .page-fine .page-allowed in
         absurd (omega arith)
     by false q = refl
 
 module _ (file output scratch : List ℕ) (units : ℕ) where
   -- where the number is 0 the handle decides
-  by-handle : (i : Info) → i .number ≡ 0 → decodeTold file i output scratch units ≡ run (decodeChecks (seen file []) (i .limits) (i .handle) (length output) (length scratch)) units
+  by-handle : (i : Info) → i .number ≡ 0 → imageDecodeTold file i output scratch units
+      ≡ run (decodeChecks (seen file []) (i .limits) (i .handle) (length output) (length scratch)) units
   unfolding imageChecks
   by-handle i z = sym (must-yes _ _ _ _ (eq-eqb _ _ z) refl)
 
   -- decode of an image succeeds, and leaves so many units, exactly if it carries no refusal and decode of its handle does; this is so of
   -- whatever an image may carry
-  pub image-exact : (i : Info) (w : ℕ) → (decodeTold file i output scratch units ≡ told-is.Passed w) ↔ ((i .number ≡ 0) × Decodes (seen file []) (i .limits) (i .handle) (length output) (length scratch) units w)
+  pub image-exact : (i : Info) (w : ℕ) → (imageDecodeTold file i output scratch units ≡ told-is.Passed w)
+      ↔ ((i .number ≡ 0) × Decodes (seen file []) (i .limits) (i .handle) (length output) (length scratch) units w)
   unfolding imageChecks Holds
   image-exact i w =
       let v = seen file [] in
@@ -54,19 +55,22 @@ module _ (file output scratch : List ℕ) (units : ℕ) where
         λ p. by-handle i (p .0) ∙ exact .1 (p .1),
       )
 
-  carried-refusal : (e : ℕ) → decodeTold file (refused e) output scratch units ≡ told-is.Refused invalid units
+  carried-refusal : (e : ℕ) → imageDecodeTold file (refused e) output scratch units ≡ told-is.Refused invalid units
   unfolding imageChecks
   carried-refusal e = by (eqb e 0) refl
     where
-      by : (t : Bool) → eqb e 0 ≡ t → decodeTold file (refused e) output scratch units ≡ told-is.Refused invalid units
+      by : (t : Bool) → eqb e 0 ≡ t → imageDecodeTold file (refused e) output scratch units ≡ told-is.Refused invalid units
       by true t = by-handle (refused e) (eqb-true e 0 t) ∙ sym (must-no _ _ _ _ (none-given (seen file [])))
       by false t = sym (must-no _ _ _ _ t)
 
   module _ (page : ℕ) (l : Limits) (u w : ℕ) where
     -- an image that an inspection gave is decoded as its handle is
-    pub image-decodes : (h : Handle) → inspectedOf (seen file []) page l u ≡ inspected-is.Picture h w → decodeTold file (infoOf l (inspectedOf (seen file []) page l u)) output scratch units ≡ run (decodeChecks (seen file []) l h (length output) (length scratch)) units
+    pub image-decodes : (h : Handle) → inspectedOf (seen file []) page l u ≡ inspected-is.Picture h w
+        → imageDecodeTold file (infoOf l (inspectedOf (seen file []) page l u)) output scratch units
+        ≡ run (decodeChecks (seen file []) l h (length output) (length scratch)) units
     image-decodes h e = rw e (by-handle (infoOf l (inspected-is.Picture h w)) refl)
 
     -- after a refusal, whatever its number, decode answers 2 and takes nothing
-    pub image-refused : (e : ℕ) → inspectedOf (seen file []) page l u ≡ inspected-is.Refused e w → decodeTold file (infoOf l (inspectedOf (seen file []) page l u)) output scratch units ≡ told-is.Refused invalid units
+    pub image-refused : (e : ℕ) → inspectedOf (seen file []) page l u ≡ inspected-is.Refused e w
+        → imageDecodeTold file (infoOf l (inspectedOf (seen file []) page l u)) output scratch units ≡ told-is.Refused invalid units
     image-refused e q = rw q (carried-refusal e)

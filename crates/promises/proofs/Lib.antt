@@ -11,7 +11,10 @@ pub mod Decoded
 pub mod Upstream
 pub mod Patchy
 pub mod Unseen
+pub mod Own
 pub mod Codes
 pub mod Marks
 pub mod Whole
 pub mod Lending
+pub mod Witness
+pub mod Demands

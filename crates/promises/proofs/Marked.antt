@@ -5,13 +5,15 @@ use Rattle.lists.specs.Lists.{span, joined, perRow}
 use Rattle.lists.specs.Sums.{back}
 use Rattle.checks.specs.Checks.{verdict}
 use Rattle.geometry.specs.Geometry.{rowsOf, byteSegment, byteLocal}
-use Rattle.logluv_format.specs.Profile.{defaults, number as slotNumber, shapeOf}
-use Rattle.logluv.specs.Packets.{lenOf, payloadOf, roomOf, packetChecks, piece, expand, rangeChecks}
-use Rattle.luv.specs.Luv.{uv, pixel, pixelAt, rowPixels, pixels}
-use Rattle.float64.specs.Float64.{number, digits, word, value, sample, row64, samples}
+use Rattle.tiff.specs.Slots.{defaults}
+use Rattle.profile.specs.Profile.{slotNumber, shapeOf}
+use Rattle.packets.specs.Packets.{lenOf, payloadOf, roomOf, packetChecks, piece, expand, rangeChecks}
+use Rattle.pixel.specs.Luv.{uv, pixel, pixelAt, rowPixels, pixels}
+use Rattle.float64.specs.Float64.{numberFrom, digits, word, value, sample, row64, samples}
 use Rattle.native_fp.specs.NativeFp.{summedRow, gatheredRow, summed, gathered}
 use Rattle.promises.specs.Marked.{Case, cases}
 
 pub marked : map (λ (c : Case). c .gives) cases ≡ map (λ (c : Case). c .says) cases
-unfolding cases rowsOf byteSegment byteLocal defaults slotNumber shapeOf span joined perRow back verdict lenOf payloadOf roomOf packetChecks piece expand rangeChecks uv pixel pixelAt rowPixels pixels number digits word value sample row64 samples summedRow gatheredRow summed gathered
+unfolding cases rowsOf byteSegment byteLocal defaults slotNumber shapeOf span joined perRow back verdict lenOf payloadOf roomOf packetChecks piece
+    expand rangeChecks uv pixel pixelAt rowPixels pixels numberFrom digits word value sample row64 samples summedRow gatheredRow summed gathered
 marked = refl

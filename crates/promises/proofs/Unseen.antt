@@ -8,16 +8,16 @@ use Rattle.lists.specs.Lists.{overlay}
 use Rattle.seen.specs.Seen.{Seen}
 use Rattle.seen.proofs.Alike.{alike}
 use Rattle.front.specs.Front.{formatSeen}
-use Rattle.logluv_segment.specs.Shown.{pictureOf}
-use Rattle.logluv_segment.proofs.Pictures.{picture-length}
-use Rattle.tiff.specs.declared.Limits.{Limits}
+use Rattle.picture.specs.Picture.{pictureOf}
+use Rattle.picture.proofs.Pictures.{picture-length}
+use Rattle.header.specs.declared.Limits.{Limits}
 use Rattle.quality.specs.Quality.{showsOf}
 use Rattle.patchy.specs.Patchy.{readingOf, qualityAfter}
-use Rattle.patchy.specs.declared.Room.{Room}
+use Rattle.admission.specs.declared.Room.{Room}
 use Rattle.patchy.specs.declared.Sizes.{Sizes}
 use Rattle.patchy.specs.declared.Reading.{Reading}
 use Rattle.patchy.specs.declared.Reading.the-variants.{Picture}
-use Rattle.promises.specs.Patchy.{Call, view, formatIn, room, answer, outputThen, Alike, SameOutcome}
+use Rattle.promises.specs.Patchy.{Call, view, pageFormat, room, answer, outputThen, Alike, SameOutcome}
 use Rattle.promises.proofs.Strict.{page-valid}
 use Rattle.promises.proofs.Patchy.{reading-exact}
 
@@ -30,7 +30,7 @@ picture-front : (c : Call) (s : Sizes) (w : ℕ) → answer c ≡ Picture s w �
 unfolding overlay
 picture-front c s w e =
     let r = reading-exact c s w .0 e in
-    let f = formatIn c in
+    let f = pageFormat c in
     let long = picture-length f (showsOf (view c) f) ∙ page-valid (view c) (c .page) (c .limits) (r .fine .page-fine) .output-is in
     rw (e, r .sizes-are) (take-at (pictureSeen (view c) (c .page)) _ (6 * (f .width * f .height)) long)
 
@@ -47,7 +47,8 @@ pub lost-bytes-have-no-influence : (a b : Call) → Alike a b → SameOutcome a 
 lost-bytes-have-no-influence a b h =
     let same-view : view a ≡ view b = rw (h .one-map) (alike (a .file) (b .file) (b .map) (h .files-agree)) in
     let same-room : room a ≡ room b = rw (h .output-long, h .scratch-long, h .quality-long) in
-    let same = same-answer (view a) (view b) (a .page) (b .page) same-view (h .one-page) (length (a .map)) (length (b .map)) (a .limits) (b .limits) (room a) (room b) (a .units) (b .units) (ap length (h .one-map)) (h .one-limits) same-room (h .one-budget) in
+    let same = same-answer (view a) (view b) (a .page) (b .page) same-view (h .one-page) (length (a .map)) (length (b .map)) (a .limits) (b .limits) (room a)
+    (room b) (a .units) (b .units) (ap length (h .one-map)) (h .one-limits) same-room (h .one-budget) in
     record {
       answers = same;
       pixels = λ s w e. picture-front a s w (same ∙ e) ∙ rw (same-view, h .one-page) (sym (picture-front b s w e));

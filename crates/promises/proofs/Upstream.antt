@@ -5,7 +5,6 @@ use mathlib.Core.List.{List, _∷_}
 use mathlib.Core.Bool.{Bool, true, false}
 use native.Mathlib.Omega.{arith}
 use native.Mathlib.Nat.{div-one, div-eq-of-lt}
-use lib.ListN.{getD}
 use borrow.Author.Tests.{leb-true}
 use Rattle.lists.specs.Lists.{lesser}
 use Rattle.checks.specs.Checks.{Check, run, verdict, Holds, cost}
@@ -14,30 +13,32 @@ use Rattle.checks.specs.declared.Verdict.{Verdict}
 use Rattle.checks.specs.declared.Verdict.the-variants as verdict-is
 use Rattle.checks.proofs.Exact.{accepted, fine, holds-then, cost-then, stops, run-refused}
 use Rattle.checks.proofs.Refusals.{refused}
+use Rattle.checks.specs.Sizes.{most64}
 use Rattle.seen.specs.Seen.{Seen}
 use Rattle.geometry.specs.Geometry.{rowsOf}
-use Rattle.tiff.specs.declared.Limits.{Limits}
-use Rattle.tiff.specs.Header.{big, firstOf}
-use Rattle.tiff.specs.Directory.{slotsAt}
-use Rattle.tiff.specs.Walk.{pageAt}
+use Rattle.header.specs.declared.Limits.{Limits}
+use Rattle.header.specs.Header.{bigEndian}
 use Rattle.front.specs.Front.{formatSeen}
-use Rattle.logluv_format.specs.Profile.{present, numbersOf, shapeOf, formatIn, formatOf}
-use Rattle.logluv_format.specs.Readable.{Valid}
-use Rattle.logluv_format.specs.declared.Format.{Format}
-use Rattle.front.specs.Container.{HeaderFine, WalkFine}
-use Rattle.front.specs.Accepted.{ProfileFine}
-use Rattle.logluv_segment.specs.Segment.{rowsIn, areaOf, scratchOf, feeOf, placeChecks, roomChecks, planChecks, feeChecks, segmentChecks, feesOf}
-use Rattle.logluv_segment.proofs.Checking.{plan-free}
+use Rattle.tiff.specs.Slots.{tileOffsets, entryIn, present}
+use Rattle.profile.specs.Profile.{numbersOf, shapeOf, formatWith, formatOf}
+use Rattle.picture.specs.Inner.{Valid}
+use Rattle.picture.specs.declared.Format.{Format}
+use Rattle.profile.specs.Accepted.{ProfileFine}
+use Rattle.picture.specs.Picture.{rowsIn, areaOf, scratchOf}
+use Rattle.plan.specs.Plan.{feeOf, placeChecks, areaChecks, planChecks}
+use Rattle.logluv_segment.specs.Segment.{feeChecks, segmentChecks, feesOf}
+use Rattle.plan.proofs.Planning.{plan-free}
 use Rattle.logluv_segment.proofs.Fees.{segment-cost}
-use Rattle.logluv_tiff.specs.Strict.{workOf, handleOf, inspectedOf, isHandle}
-use Rattle.logluv_tiff.specs.WorkLimit.{workBound}
-use Rattle.logluv_tiff.specs.declared.Handle.{Handle}
-use Rattle.logluv_tiff.specs.declared.Inspected.the-variants as inspected-is
-use Rattle.promises.specs.Strict.{SegmentFine, PictureFine, chargeOf, Inspects, Largest}
+use Rattle.inspection.specs.Inspection.{workOf, handleOf, inspectedOf, isHandle}
+use Rattle.work_limit.specs.WorkLimit.{workBound}
+use Rattle.handle.specs.declared.Handle.{Handle}
+use Rattle.handle.specs.declared.Inspected.the-variants as inspected-is
+use Rattle.promises.specs.Upstream.{WellFormed}
+use Rattle.promises.specs.Strict.{SegmentFine, PictureFine, inspectionCharge, Inspects, Largest}
 use Rattle.promises.proofs.Segments.{place-fine, segment-fine}
 use Rattle.promises.proofs.Strict.{page-valid, inspection-exact, inspection-refused}
 use Rattle.promises.proofs.Bounds.{fee-bound, bound-covers, scratch-given}
-use Rattle.promises.proofs.Handles.{handle-exact}
+use Rattle.promises.proofs.Handles.{given-inspected, handle-exact}
 
 -- of strips there is one across, so strip k begins at row k × block height
 pub strip-rows : (f : Format) → Valid f → f .tiled ≡ false → (k : ℕ) → rowsIn f k ≡ lesser (f .height - k * f .«block_height») (f .«block_height»)
@@ -65,15 +66,21 @@ same-left n u e w q = cc
 
 -- one segment: what it charges is bounded, and with so many units a fine one passes
 module _ (v : Seen) (f : Format) (maxInput maxOutput k : ℕ) (small : v .size ≤ maxInput) where
-  pub segment-passes : (u : ℕ) → SegmentFine v f maxOutput k → maxInput + 2 * maxOutput + 1 ≤ u → run (segmentChecks v f maxOutput k) u ≡ Passed (u - feeOf v f k)
+  pub segment-passes : (u : ℕ) → SegmentFine v f maxOutput k → maxInput + 2 * maxOutput + 1 ≤ u → run (segmentChecks v f maxOutput k) u
+      ≡ Passed (u - feeOf v f k)
   segment-passes u s enough =
       accepted (segmentChecks v f maxOutput k) u (u - feeOf v f k) .1
-      (record { holds = segment-fine v f maxOutput k .1 s; covered = omega (arith, segment-cost v f maxOutput k, fee-bound v f maxInput maxOutput small k s); rest = ap (λ (c : ℕ). u - c) (sym (segment-cost v f maxOutput k)) })
+      (record {
+        holds = segment-fine v f maxOutput k .1 s;
+        covered = omega
+            (arith, segment-cost v f maxOutput k, fee-bound v f maxInput maxOutput small k s);
+        rest = ap (λ (c : ℕ). u - c) (sym (segment-cost v f maxOutput k));
+      })
 
   planned-fee : verdict (planChecks v f maxOutput k) ≡ verdict-is.Fine → feeOf v f k ≤ maxInput + 2 * maxOutput + 1
-  unfolding planChecks roomChecks Holds
+  unfolding planChecks areaChecks Holds
   planned-fee e =
-      let x = holds-then (placeChecks v f k) (roomChecks v f maxOutput k) (fine (planChecks v f maxOutput k) .0 e) in
+      let x = holds-then (placeChecks v f k) (areaChecks v f maxOutput k) (fine (planChecks v f maxOutput k) .0 e) in
       omega (arith, place-fine v f k .0 (x .0) .1 .1 .in-file, leb-true (10 * areaOf f k) maxOutput (x .1 .0))
 
   -- and whatever it answers, it has charged no more than that
@@ -84,26 +91,29 @@ module _ (v : Seen) (f : Format) (maxInput maxOutput k : ℕ) (small : v .size �
       by : (t : Verdict) → verdict (planChecks v f maxOutput k) ≡ t → u - w ≤ maxInput + 2 * maxOutput + 1
       by verdict-is.Fine t =
           let r = refused (segmentChecks v f maxOutput k) u e w .0 q in
-          let c : cost (segmentChecks v f maxOutput k) ≡ cost (r .before) + cost (r .check ∷ r .after) = ap cost (r .splits) ∙ cost-then (r .before) (r .check ∷ r .after) in
+          let c : cost (segmentChecks v f maxOutput k) ≡ cost (r .before) + cost (r .check ∷ r .after) = ap cost (r .splits)
+          ∙ cost-then (r .before) (r .check ∷ r .after) in
           omega (arith, r .rest, r .covered, c, segment-cost v f maxOutput k, planned-fee t)
       by (verdict-is.Refused n) t =
           let s = stops (planChecks v f maxOutput k) (feeChecks v f k) u n u (run-refused (planChecks v f maxOutput k) u n (plan-free v f maxOutput k) t) in
           let z : w ≡ u = same-left n u e w (sym s ∙ q) in
           omega arith
 
-pub output-small : (v : Seen) (b : Bool) (entries : ℕ) (slots : List ℕ) (l : Limits) → ProfileFine v b slots l → formatOf v b entries slots .output ≤ l .«max_output»
-unfolding formatIn shapeOf
-output-small v b entries slots l p = by (present (getD slots 15 0))
+pub output-small : (v : Seen) (b : Bool) (entries : ℕ) (slots : List ℕ) (l : Limits) → ProfileFine v b slots l
+    → formatOf v b entries slots .output ≤ l .«max_output»
+unfolding formatWith shapeOf
+output-small v b entries slots l p = by (present (entryIn slots tileOffsets))
   where
-    by : (t : Bool) → formatIn v b entries slots (shapeOf (numbersOf v b slots) t) .output ≤ l .«max_output»
+    by : (t : Bool) → formatWith b entries slots (shapeOf (numbersOf v b slots) t) .output ≤ l .«max_output»
     by true = p .output-allowed
     by false = p .output-allowed
 
 module _ (v : Seen) (page : ℕ) (l : Limits) where
   -- inspection succeeds where the units reach upstream's bound
-  pub inspection-succeeds : (u : ℕ) → PictureFine v page l → workBound page l ≤ u → inspectedOf v page l u ≡ inspected-is.Picture (handleOf v page) (u - chargeOf v page)
+  pub inspection-succeeds : (u : ℕ) → PictureFine v page l → workBound page l ≤ u → inspectedOf v page l u
+      ≡ inspected-is.Picture (handleOf v page) (u - inspectionCharge v page)
   inspection-succeeds u p enough =
-      inspection-exact v page l u (u - chargeOf v page) (handleOf v page) .1
+      inspection-exact v page l u (u - inspectionCharge v page) (handleOf v page) .1
       (record { fine = p; covered = omega (arith, bound-covers v page l p); rest = refl; handle-is = refl })
 
   module _ (u w : ℕ) where
@@ -124,26 +134,14 @@ module _ (v : Seen) (page : ℕ) (l : Limits) where
           omega (arith, g .first-all, i .fine .each-segment 0 (g .some-segment) .room-allowed)
 
       pub output-allowed : h .format .output ≤ l .«max_output»
-      output-allowed = rw of-page (output-small v (big v) _ _ l (i .fine .page-fine .profile))
+      output-allowed = rw of-page (output-small v (bigEndian v) _ _ l (i .fine .page-fine .profile))
 
--- what upstream demands of a handle before decode, of one that passes the check
-pub record WellFormed (v : Seen) (l : Limits) (h : Handle) : Type 0 where
-  pub header : HeaderFine v
-  pub directories : WalkFine v (big v) (l .«max_tags») (h .page) (firstOf v)
-  pub profile : ProfileFine v (big v) (slotsAt v (big v) (pageAt v (big v) (h .page) (firstOf v))) l
-  pub format-is : h .format ≡ formatSeen v (h .page)
-  pub valid-format : Valid (h .format)
-  pub each-segment : (k : ℕ) → k < h .format .segments → SegmentFine v (h .format) (l .«max_output») k
-  pub scratch-is : h .scratch ≡ scratchOf (h .format)
-  pub scratch-small : h .scratch ≤ l .«max_output»
-  pub work-is : h .work ≡ workOf v (h .format)
-  pub output-within : h .format .output ≤ l .«max_output»
-
+-- a handle that passes the check is well-formed
 pub well-formed : (v : Seen) (l : Limits) (h : Handle) → isHandle v l h ≡ true → WellFormed v l h
 well-formed v l h passes =
-    let given = handle-exact v l h .0 passes in
-    let i = inspection-exact v (h .page) l 18446744073709551615 (given .0) h .0 (given .1) in
-    let f = of-page v (h .page) l 18446744073709551615 (given .0) h i in
+    let given = given-inspected v l h .0 (handle-exact v l h .0 passes) in
+    let i = inspection-exact v (h .page) l most64 (given .0) h .0 (given .1) in
+    let f = of-page v (h .page) l most64 (given .0) h i in
     record {
       header = i .fine .page-fine .header;
       directories = i .fine .page-fine .directories;
@@ -152,7 +150,7 @@ well-formed v l h passes =
       valid-format = rw f (page-valid v (h .page) l (i .fine .page-fine));
       each-segment = rw f (i .fine .each-segment);
       scratch-is = ap (λ (x : Handle). x .scratch) (i .handle-is) ∙ ap scratchOf (sym f);
-      scratch-small = scratch-allowed v (h .page) l 18446744073709551615 (given .0) h i;
+      scratch-small = scratch-allowed v (h .page) l most64 (given .0) h i;
       work-is = ap (λ (x : Handle). x .work) (i .handle-is) ∙ ap (workOf v) (sym f);
-      output-within = output-allowed v (h .page) l 18446744073709551615 (given .0) h i;
+      output-within = output-allowed v (h .page) l most64 (given .0) h i;
     }

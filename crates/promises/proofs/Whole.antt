@@ -8,24 +8,27 @@ use native.Mathlib.Omega.{arith}
 use Rattle.lists.specs.Lists.{overlay}
 use Rattle.seen.specs.Seen.{Seen, seen}
 use Rattle.seen.proofs.Alike.{came-whole}
-use Rattle.logluv_format.specs.declared.Format.{Format}
+use Rattle.picture.specs.declared.Format.{Format}
 use Rattle.logluv_segment.specs.Segment.{feesOf}
-use Rattle.logluv_segment.specs.Shown.{shown, pictureOf}
+use Rattle.showing.specs.Shown.{shown}
+use Rattle.picture.specs.Picture.{pictureOf}
 use Rattle.logluv_segment.proofs.Fees.{fee-below}
-use Rattle.logluv_segment.proofs.Pictures.{same-picture}
-use Rattle.logluv_tiff.specs.Strict.{handleOf, inspectedOf}
-use Rattle.logluv_tiff.specs.declared.Handle.{Handle}
-use Rattle.logluv_tiff.specs.declared.Inspected.the-variants as inspected-is
-use Rattle.quality.specs.Quality.{codeOf, showsOf}
-use Rattle.patchy.specs.Patchy.{sizesOf, chargesOf, workOf}
+use Rattle.picture.proofs.Pictures.{same-picture}
+use Rattle.inspection.specs.Inspection.{handleOf, inspectedOf}
+use Rattle.handle.specs.declared.Handle.{Handle}
+use Rattle.handle.specs.declared.Inspected.the-variants as inspected-is
+use Rattle.quality.specs.Quality.{showsOf}
+use Rattle.patchy.specs.Patchy.{sizesOf}
+use Rattle.admission.specs.Admission.{chargesOf, pictureCharge}
 use Rattle.patchy.specs.declared.Sizes.{Sizes}
 use Rattle.patchy.specs.declared.Reading.the-variants.{Picture}
 use Rattle.promises.specs.Strict.{Good, Inspects}
-use Rattle.promises.specs.Patchy.{Call, view, formatIn, answer, outputThen, Reads, Suffices}
+use Rattle.promises.specs.Patchy.{Call, view, pageFormat, Answered, MarkedGood, outputThen, Reads, Suffices}
 use Rattle.promises.proofs.Strict.{page-valid, inspection-exact}
 use Rattle.promises.proofs.Bounds.{scratch-largest}
 use Rattle.promises.proofs.Patchy.{reading-exact}
-use Rattle.promises.proofs.Codes.{code-good, good-charged, good-shown}
+use Rattle.promises.proofs.Marks.{quality-good}
+use Rattle.promises.proofs.Codes.{good-charged, good-shown}
 
 -- where all are good the charges are the fees
 charges-fees : (v : Seen) (f : Format) (n k : ℕ) → ((j : ℕ) → k ≤ j → j < k + n → Good v f j) → chargesOf v f k n ≡ feesOf v f k n
@@ -39,10 +42,10 @@ module _ (c : Call) (enough : Suffices c) where
   v = view c
 
   abbrev f : Format
-  f = formatIn c
+  f = pageFormat c
 
   -- each segment is good, so what is charged for them is the sum of fees
-  all-charged : ((k : ℕ) → k < f .segments → Good v f k) → workOf v f ≡ feesOf v f 0 (f .segments)
+  all-charged : ((k : ℕ) → k < f .segments → Good v f k) → pictureCharge v f ≡ feesOf v f 0 (f .segments)
   all-charged good = charges-fees v f (f .segments) 0 (λ j a b. good j (omega arith))
 
   -- what is true of a reading with every segment good is true of an inspection, and the other way round
@@ -85,23 +88,28 @@ module _ (c : Call) (enough : Suffices c) where
   same-view : v ≡ seen (c .file) []
   same-view = came-whole (c .file) (c .map) (enough .came)
 
-  inspects : (h : Handle) (w : ℕ) → (inspectedOf (seen (c .file) []) (c .page) (c .limits) (c .units) ≡ inspected-is.Picture h w) ↔ Inspects v (c .page) (c .limits) (c .units) w h
+  inspects : (h : Handle) (w : ℕ) → (inspectedOf (seen (c .file) []) (c .page) (c .limits) (c .units) ≡ inspected-is.Picture h w)
+      ↔ Inspects v (c .page) (c .limits) (c .units) w h
   inspects h w =
       let same = ap (λ (x : Seen). inspectedOf x (c .page) (c .limits) (c .units)) same-view in
       let i = inspection-exact v (c .page) (c .limits) (c .units) w h in
       (λ e. i .0 (same ∙ e), λ x. sym same ∙ i .1 x)
 
-  -- patchy reading answers with every segment good exactly if strict inspection succeeds, and both leave the same units
+  -- patchy reading answers with every quality byte of a segment 1 exactly if strict inspection succeeds, and both leave the same units
   pub whole-exact : (w : ℕ)
-      → (((s : Sizes) × (answer c ≡ Picture s w)) × ((k : ℕ) → k < formatIn c .segments → codeOf (view c) (formatIn c) k ≡ 1))
+      → ((s : Sizes) × (Answered c s w × ((k : ℕ) → k < s .segments → MarkedGood c k)))
       ↔ ((h : Handle) × (inspectedOf (seen (c .file) []) (c .page) (c .limits) (c .units) ≡ inspected-is.Picture h w))
   whole-exact w = (
-    λ ((s, e), all-one).
-        let i = read-inspects w s (reading-exact c s w .0 e) (λ k l. code-good v f k .0 (all-one k l)) in
-        (handleOf v (c .page), inspects (handleOf v (c .page)) w .1 i),
+    λ (s, (e, marked)).
+        let r = reading-exact c s w .0 e in
+        let many : s .segments ≡ f .segments = ap (λ (x : Sizes). x .segments) (r .sizes-are) in
+        let below : (k : ℕ) → k < f .segments → k < s .segments = λ k l. omega (arith, many, l) in
+        let good : (k : ℕ) → k < f .segments → Good v f k = λ k l. quality-good c s w e k (below k l) .0 (marked k (below k l)) in
+        (handleOf v (c .page), inspects (handleOf v (c .page)) w .1 (read-inspects w s r good)),
     λ (h, e).
         let i = inspects h w .0 e in
-        ((sizesOf f, reading-exact c (sizesOf f) w .1 (inspects-read w h i)), λ k l. code-good v f k .1 (i .fine .each-segment k l .good)),
+        let answered = reading-exact c (sizesOf f) w .1 (inspects-read w h i) in
+        (sizesOf f, (answered, λ k l. quality-good c (sizesOf f) w answered k l .1 (i .fine .each-segment k l .good))),
   )
 
   module _ (h : Handle) (w : ℕ) (gave : inspectedOf (seen (c .file) []) (c .page) (c .limits) (c .units) ≡ inspected-is.Picture h w) where
@@ -116,7 +124,7 @@ module _ (c : Call) (enough : Suffices c) where
         (ap (λ (x : Seen). overlay (pictureOf f (shown x f)) (c .output)) same-view)
 
     -- what is charged for the segments is the handle's work
-    pub whole-charge : workOf (view c) (formatIn c) ≡ h .work
+    pub whole-charge : pictureCharge (view c) (pageFormat c) ≡ h .work
     whole-charge =
         let i = inspects h w .0 gave in
         all-charged (λ k l. i .fine .each-segment k l .good) ∙ sym (ap (λ (x : Handle). x .work) (i .handle-is))

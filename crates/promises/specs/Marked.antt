@@ -4,17 +4,18 @@ use mathlib.Core.Bool.{true, false}
 use mathlib.Core.List.{List, [], _∷_, _++_}
 use lib.ListN.{length, take, drop, replicate}
 use Rattle.lists.specs.Lists.{tabulate}
-use Rattle.checks.specs.Numbers.{numberOf}
+use Rattle.checks.specs.Numbers.{verdictNumber}
 use Rattle.checks.specs.Checks.{verdict}
 use Rattle.seen.specs.Seen.{seen}
+use Rattle.tiff.specs.Slots.{rowsPerStrip}
 use Rattle.tiff.specs.Directory.{none}
 use Rattle.geometry.specs.Geometry.{rowsOf, byteSegment, byteLocal}
-use Rattle.logluv_format.specs.Profile.{number, shapeOf, acrossOf, segmentsOf}
-use Rattle.logluv_format.specs.declared.scalars.Numbers.{Numbers}
-use Rattle.logluv_format.specs.declared.profile.Shape.{Shape}
-use Rattle.logluv.specs.Packets.{lenOf, rangeChecks, expand}
-use Rattle.luv.specs.Luv.{uv, pixels}
-use Rattle.logluv_segment.specs.Fee.{fee}
+use Rattle.profile.specs.Profile.{slotNumber, shapeOf, acrossOf, segmentsOf}
+use Rattle.profile.specs.declared.Numbers.{Numbers}
+use Rattle.profile.specs.declared.Shape.{Shape}
+use Rattle.packets.specs.Packets.{lenOf, rangeChecks, expand}
+use Rattle.pixel.specs.Luv.{uv, pixels}
+use Rattle.geometry.specs.Costs.{fee}
 use Rattle.float64.specs.Float64.{samples}
 use Rattle.native_fp.specs.NativeFp.{gathered}
 
@@ -28,16 +29,16 @@ case n x y = record { number = n; gives = x; says = y }
 
 -- the refusal number of packets that are to fill so many bytes at block width 2; 0: accepted
 abbrev answer : ℕ → List ℕ → ℕ
-answer needed packets = numberOf (verdict (rangeChecks packets 0 (length packets) 2 needed))
+answer needed packets = verdictNumber (verdict (rangeChecks packets 0 (length packets) 2 needed))
 
 -- one row at block width 2: the answer, the pixels, the fee
-abbrev shown : List ℕ → List ℕ
-shown packets = (answer 8 packets ∷ []) ++ (pixels 2 1 (expand packets 0) ++ (fee (length packets) (2 * 1) ∷ []))
+abbrev caseShown : List ℕ → List ℕ
+caseShown packets = (answer 8 packets ∷ []) ++ (pixels 2 1 (expand packets 0) ++ (fee (length packets) (2 * 1) ∷ []))
 
-abbrev first : List ℕ
+abbrev pub first : List ℕ
 first = 0x80 ∷ 0x07 ∷ 0x80 ∷ 0x01 ∷ 0x80 ∷ 0x02 ∷ 0x80 ∷ 0x03 ∷ []
 
-abbrev onePixel : List ℕ
+abbrev pub onePixel : List ℕ
 onePixel = 0x01 ∷ 0x07 ∷ 0xC7 ∷ 0x00 ∷ 0x17 ∷ 0x01 ∷ []
 
 -- the rows of each segment, in the segments' order
@@ -69,15 +70,15 @@ tiles = shapeOf (sides 17 5 0 16) true
 
 unfoldable pub cases : List Case
 cases =
-    case 1 (shown first) ((0 ∷ []) ++ (onePixel ++ (onePixel ++ (49 ∷ []))))
-    ∷ case 2 (shown (first ++ (0x00 ∷ []))) ((0 ∷ []) ++ (onePixel ++ (onePixel ++ (50 ∷ []))))
+    case 1 (caseShown first) ((0 ∷ []) ++ (onePixel ++ (onePixel ++ (49 ∷ []))))
+    ∷ case 2 (caseShown (first ++ (0x00 ∷ []))) ((0 ∷ []) ++ (onePixel ++ (onePixel ++ (50 ∷ []))))
     ∷ case 3 (answer 8 (0x83 ∷ drop 1 first) ∷ []) (2 ∷ [])
     ∷ case 4 (answer 8 (take 6 first) ∷ answer 8 (take 7 first) ∷ []) (1 ∷ 1 ∷ [])
     ∷ case 5 (answer 8 (first ++ (0x01 ∷ 0x09 ∷ [])) ∷ []) (2 ∷ [])
     ∷ case 6 (answer 0 [] ∷ answer 1 [] ∷ []) (0 ∷ 1 ∷ [])
     ∷ case 7 (lenOf 127 ∷ lenOf 128 ∷ lenOf 255 ∷ []) (127 ∷ 2 ∷ 129 ∷ [])
     ∷ case 8 (uv 0 ∷ uv 1 ∷ uv 255 ∷ []) (39 ∷ 119 ∷ 20420 ∷ [])
-    ∷ case 9 (rowsOfEach (strips 5 2) ++ rowsOfEach (strips 5 (number (seen [] []) false none 9))) (2 ∷ 2 ∷ 1 ∷ 5 ∷ [])
+    ∷ case 9 (rowsOfEach (strips 5 2) ++ rowsOfEach (strips 5 (slotNumber (seen [] []) false none rowsPerStrip))) (2 ∷ 2 ∷ 1 ∷ 5 ∷ [])
     ∷ case 10 (rowsOfEach tiles ++ (byteSegment 6 17 16 16 (acrossOf tiles) 98 ∷ byteLocal 6 17 16 16 98 ∷ [])) (16 ∷ 16 ∷ 1 ∷ 2 ∷ [])
     ∷ case 11 (drop 8 (samples true true 2 1 1 2 (replicate 8 0xFF ++ (2 ∷ replicate 7 0)))) (1 ∷ replicate 7 0)
     ∷ case 12 (gathered 4 1 2 true (1 ∷ 1 ∷ 1 ∷ 1 ∷ [])) (3 ∷ 1 ∷ 4 ∷ 2 ∷ [])

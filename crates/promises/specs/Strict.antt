@@ -3,46 +3,48 @@
 use Prim.Native.Nat.{ℕ, _+_, _-_, _*_, _%_, _<_, _≤_}
 use mathlib.Core.Path.{_≡_}
 use mathlib.Core.List.{List}
-use lib.ListN.{getD}
-use Rattle.checks.specs.Checks.{Holds}
+use lib.ListN.{length, getD}
+use Rattle.checks.specs.Sizes.{most64}
 use Rattle.seen.specs.Seen.{Seen, There}
-use Rattle.tiff.specs.Header.{big, firstOf}
+use Rattle.header.specs.Header.{bigEndian, firstOf, HeaderFine}
 use Rattle.tiff.specs.Directory.{slotsAt}
 use Rattle.tiff.specs.Walk.{pageAt}
 use Rattle.geometry.specs.Geometry.{segmentOf}
 use Rattle.entries.specs.Values.{sizeOf, placeOf}
-use Rattle.tiff.specs.declared.Limits.{Limits}
+use Rattle.header.specs.declared.Limits.{Limits}
 use Rattle.front.specs.Front.{formatSeen}
-use Rattle.logluv_format.specs.declared.Format.{Format}
-use Rattle.front.specs.Container.{HeaderFine, WalkFine, walkFee}
-use Rattle.front.specs.Accepted.{ProfileFine}
-use Rattle.logluv.specs.Packets.{expand}
-use Rattle.luv.specs.Luv.{pixel}
-use Rattle.logluv_segment.specs.Segment.{areaOf, offsetOf, countOf, feeOf, stored, storedChecks, feesOf}
-use Rattle.logluv_tiff.specs.Strict.{handleOf, inspectedOf}
-use Rattle.logluv_tiff.specs.declared.Handle.{Handle}
-use Rattle.logluv_tiff.specs.declared.Inspected.the-variants.{Picture}
+use Rattle.picture.specs.declared.Format.{Format}
+use Rattle.tiff.specs.Container.{WalkFine}
+use Rattle.profile.specs.Accepted.{ProfileFine}
+use Rattle.front.specs.Accepted.{frontFee}
+use Rattle.packets.specs.Packets.{Fills, expand}
+use Rattle.pixel.specs.Luv.{pixel}
+use Rattle.picture.specs.Picture.{areaOf}
+use Rattle.plan.specs.Plan.{offsetOf, countOf, feeOf}
+use Rattle.logluv_segment.specs.Segment.{stored, feesOf}
+use Rattle.inspection.specs.Inspection.{handleOf}
+use Rattle.handle.specs.declared.Handle.{Handle}
 
 -- segment k is good: the bytes of its two entries and its stored bytes lie in the file and came, and its packets are accepted
 pub record Good (v : Seen) (f : Format) (k : ℕ) : Type 0 where
   pub offset-there : There v (placeOf v (f .big) (f .offsets) k) (sizeOf v (f .big) (f .offsets))
   pub count-there : There v (placeOf v (f .big) (f .counts) k) (sizeOf v (f .big) (f .counts))
   pub range-there : There v (offsetOf v f k) (countOf v f k)
-  pub packets : Holds (storedChecks v f k)
+  pub packets : Fills (f .«block_width») (stored v f k) (4 * areaOf f k)
 
 -- good, with 10A and the fee allowed
 pub record SegmentFine (v : Seen) (f : Format) (maxOutput k : ℕ) : Type 0 where
   pub good : Good v f k
   pub room-allowed : 10 * areaOf f k ≤ maxOutput
-  pub fee-fits : feeOf v f k ≤ 18446744073709551615
+  pub fee-fits : feeOf v f k ≤ most64
 
 -- the limits on the file and the page, and the front part
 pub record PageFine (v : Seen) (page : ℕ) (l : Limits) : Type 0 where
   pub input-allowed : v .size ≤ l .«max_input»
   pub page-allowed : page < l .«max_directories»
   pub header : HeaderFine v
-  pub directories : WalkFine v (big v) (l .«max_tags») page (firstOf v)
-  pub profile : ProfileFine v (big v) (slotsAt v (big v) (pageAt v (big v) page (firstOf v))) l
+  pub directories : WalkFine v (bigEndian v) (l .«max_tags») page (firstOf v)
+  pub profile : ProfileFine v (bigEndian v) (slotsAt v (bigEndian v) (pageAt v (bigEndian v) page (firstOf v))) l
 
 -- these, and each segment
 pub record PictureFine (v : Seen) (page : ℕ) (l : Limits) : Type 0 where
@@ -50,19 +52,21 @@ pub record PictureFine (v : Seen) (page : ℕ) (l : Limits) : Type 0 where
   pub each-segment : (k : ℕ) → k < formatSeen v page .segments → SegmentFine v (formatSeen v page) (l .«max_output») k
 
 -- the directories, 128 and the sum of fees
-abbrev pub chargeOf : Seen → ℕ → ℕ
-chargeOf v page = walkFee v (big v) page (firstOf v) + 128 + feesOf v (formatSeen v page) 0 (formatSeen v page .segments)
+abbrev pub inspectionCharge : Seen → ℕ → ℕ
+inspectionCharge v page = frontFee v page + feesOf v (formatSeen v page) 0 (formatSeen v page .segments)
 
 -- an inspection with u units at hand that gives a handle and leaves w
 pub record Inspects (v : Seen) (page : ℕ) (l : Limits) (u w : ℕ) (h : Handle) : Type 0 where
   pub fine : PictureFine v page l
-  pub covered : chargeOf v page ≤ u
-  pub rest : w ≡ u - chargeOf v page
+  pub covered : inspectionCharge v page ≤ u
+  pub rest : w ≡ u - inspectionCharge v page
   pub handle-is : h ≡ handleOf v page
 
--- a handle is what a successful inspection of its own page gives, where the units suffice for any charge
-abbrev pub Given : Seen → Limits → Handle → Type 0
-Given v l h = (w : ℕ) × (inspectedOf v (h .page) l 18446744073709551615 ≡ Picture h w)
+-- a handle is given: the picture of its own page is fine, what that charges is a number of 64 bits, and the handle is the one defined
+pub record Given (v : Seen) (l : Limits) (h : Handle) : Type 0 where
+  pub fine : PictureFine v (h .page) l
+  pub charge-fits : inspectionCharge v (h .page) ≤ most64
+  pub handle-is : h ≡ handleOf v (h .page)
 
 -- decode of a handle into buffers of these lengths, with u units at hand and w left
 pub record Decodes (v : Seen) (l : Limits) (h : Handle) (output scratch u w : ℕ) : Type 0 where
@@ -77,8 +81,8 @@ pub record ReadsPage (v : Seen) (page : ℕ) (l : Limits) (output scratch u w : 
   pub fine : PictureFine v page l
   pub output-holds : handleOf v page .format .output ≤ output
   pub scratch-holds : handleOf v page .scratch ≤ scratch
-  pub covered : chargeOf v page + handleOf v page .work ≤ u
-  pub rest : w ≡ u - (chargeOf v page + handleOf v page .work)
+  pub covered : inspectionCharge v page + handleOf v page .work ≤ u
+  pub rest : w ≡ u - (inspectionCharge v page + handleOf v page .work)
   pub handle-is : h ≡ handleOf v page
 
 -- the largest 10A of a format's segments: none needs more, and segment 0 needs so much
@@ -96,3 +100,14 @@ module _ (v : Seen) (f : Format) (x y : ℕ) where
 
   abbrev pub pixelSeen : List ℕ
   pixelSeen = pixel (planeByte 0) (planeByte 1) (planeByte 2) (planeByte 3)
+
+-- what stands in the two lent buffers after a handle's picture is shown: each byte of pixel (x, y) as defined, what came after the picture as it
+-- was, and scratch zero as far as its size
+pub record Shows (v : Seen) (h : Handle) (output scratch output′ scratch′ : List ℕ) : Type 0 where
+  pub pixel-bytes : (x y b : ℕ) → x < h .format .width → y < h .format .height → b < 6
+      → getD output′ ((y * h .format .width + x) * 6 + b) 0 ≡ getD (pixelSeen v (h .format) x y) b 0
+  pub output-tail : (q : ℕ) → 6 * (h .format .width * h .format .height) ≤ q → getD output′ q 0 ≡ getD output q 0
+  pub output-long : length output′ ≡ length output
+  pub scratch-zero : (q : ℕ) → q < h .scratch → getD scratch′ q 0 ≡ 0
+  pub scratch-tail : (q : ℕ) → h .scratch ≤ q → getD scratch′ q 0 ≡ getD scratch q 0
+  pub scratch-long : length scratch′ ≡ length scratch

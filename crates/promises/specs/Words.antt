@@ -3,9 +3,9 @@ use Prim.Native.Nat.{ℕ}
 use mathlib.Core.Path.{_≡_}
 use mathlib.Core.List.{List}
 use Rattle.seen.specs.Seen.{Seen}
-use Rattle.tiff.specs.declared.Limits.{Limits}
-use Rattle.logluv_tiff.specs.Strict.{handleOf}
-use Rattle.chelmesut.specs.Face.{wordsOf}
+use Rattle.header.specs.declared.Limits.{Limits}
+use Rattle.inspection.specs.Inspection.{handleOf}
+use Rattle.face_words.specs.Words.{wordsOf}
 use Rattle.promises.specs.Strict.{Given, Decodes}
 
 -- words that stand for a handle: those of the page's, where an inspection gives it
