@@ -1,7 +1,7 @@
 // The incident: a picture of which one block did not come is read into the buffer that has the picture before it. The strip of
 // that block is marked and blank, and the other strips are right. tests/incident.py computes `stdout`; nothing expected is in here.
+use header::Limits;
 use line::say;
-use tiff::Limits;
 ghost use mathlib.Core.Path.{_≡_};
 ghost use lib.ListN.{length};
 ghost use Rattle.io.specs.Counts.{Counts};

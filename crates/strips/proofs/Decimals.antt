@@ -10,7 +10,8 @@ use lib.ListN.{length, take}
 use borrow.Author.Needs.{needs}
 use borrow.Author.Tests.{lt-ltb, le-ltb, ltb-true, ltb-false}
 use Rattle.io.specs.Digits.{digits, Fewest}
-use Rattle.strips.specs.Pgm.{decimalIn, decimalOf, Placed}
+use Rattle.strips.specs.Pgm.{decimalIn, decimalOf}
+use Rattle.strips.specs.Inner.{BytesPlaced}
 
 -- a number of two digits or more, and the same with one fewer
 tens : (n k : ℕ) → Fewest 10 1 n (suc (suc k)) → 10 ^ k * 10 ≤ n
@@ -52,8 +53,8 @@ module _ (n k : ℕ) (small : n < 18446744073709551616) (f : Fewest 10 1 n k) wh
     pub number-fits : (at room : ℕ) → at + 20 ≤ room → at + length (take k text) ≤ room
     number-fits at room h = omega (arith, twenty)
 
-    module _ (at : ℕ) (old : List ℕ) (end : ℕ) (out : List ℕ) (p : Placed (take k text) at old end out) where
-      pub number-placed : take k text ≡ digits 10 k n → Placed (decimalOf n) at old end out
+    module _ (at : ℕ) (old : List ℕ) (end : ℕ) (out : List ℕ) (p : BytesPlaced (take k text) at old end out) where
+      pub number-placed : take k text ≡ digits 10 k n → BytesPlaced (decimalOf n) at old end out
       number-placed e = rw (e ∙ decimal-is 20 n k twenty f) at p
 
       pub number-short : end ≤ at + 20

@@ -1,10 +1,9 @@
 -- The file of a grey picture: a header in text, and a byte for each pixel.
-use Prim.Native.Nat.{ℕ, zero, suc, _+_, _-_, _/_, _%_, _≤_}
-use mathlib.Core.Path.{_≡_}
+use Prim.Native.Nat.{ℕ, zero, suc, _+_, _-_, _/_, _%_}
 use mathlib.Core.List.{List, [], _∷_, _++_}
 use lib.ListN.{length}
 use lib.Dec.{ltb}
-use Rattle.lists.specs.Lists.{pick, tabulate, overlay, put}
+use Rattle.lists.specs.Lists.{pick, tabulate}
 use Rattle.summary.specs.Grey.{greyAt, pixelsIn}
 
 -- the decimal digits of a number, as few as hold it, and no more than so many
@@ -21,19 +20,10 @@ unfoldable pub headerOf : ℕ → ℕ → List ℕ
 headerOf width height =
     (80 ∷ 53 ∷ 10 ∷ []) ++ decimalOf width ++ (32 ∷ []) ++ decimalOf height ++ (10 ∷ 50 ∷ 53 ∷ 53 ∷ 10 ∷ [])
 
+-- the grey values of a picture's pixels, as far as so much room goes
+abbrev pub greysIn : ℕ → ℕ → List ℕ → ℕ → List ℕ
+greysIn width height picture room = tabulate (pixelsIn width height (length picture) room) (greyAt picture)
+
 -- header and grey values, in so much room
 abbrev pub pgmOf : ℕ → ℕ → List ℕ → ℕ → List ℕ
-pgmOf width height picture room =
-    headerOf width height ++ tabulate (pixelsIn width height (length picture) (room - length (headerOf width height))) (greyAt picture)
-
--- new bytes stand in a buffer from a place on, up to its end, and all else is as it was
-pub record Placed (new : List ℕ) (start : ℕ) (old : List ℕ) (end : ℕ) (out : List ℕ) : Type 0 where
-  pub ends : end ≡ start + length new
-  pub within : end ≤ length out
-  pub bytes : out ≡ put start new old
-
--- the same from the buffer's start on
-pub record Written (new old : List ℕ) (end : ℕ) (out : List ℕ) : Type 0 where
-  pub ends : end ≡ length new
-  pub within : end ≤ length out
-  pub bytes : out ≡ overlay new old
+pgmOf width height picture room = headerOf width height ++ greysIn width height picture (room - length (headerOf width height))

@@ -11,9 +11,11 @@ fn number(before: &[u8], n: usize) {
 }
 
 pub fn usage() {
+    text(b"usage: strips FILE [MAP [OUT]]\n  FILE  a LogLuv TIFF picture\n");
     text(
-        b"usage: strips FILE [MAP [OUT]]\n  FILE  a LogLuv TIFF picture\n  MAP   its delivery map, a byte for each block of 512 bytes, 1 where the block came; without it the picture came whole\n  OUT   where to write L as a grey picture (PGM)\n",
+        b"  MAP   its delivery map, a byte for each block of 512 bytes, 1 where the block came; without it the picture came whole\n",
     );
+    text(b"  OUT   where to write L as a grey picture (PGM)\n");
 }
 
 pub fn too_many(given: usize) {

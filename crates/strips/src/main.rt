@@ -1,10 +1,10 @@
 // strips FILE [MAP [OUT]]: reads a picture of which not every block came, and says for each segment what came of it. With OUT it
 // writes the L plane as a grey picture.
+use header::Limits;
 use load::Loaded;
 use patchy::Reading;
 use patchy::Sizes;
 use summary::marks;
-use tiff::Limits;
 ghost use mathlib.Core.Path.{_≡_};
 ghost use lib.ListN.{length};
 ghost use Rattle.io.specs.Counts.{Counts};

@@ -7,9 +7,8 @@ ghost use mathlib.Core.Path.{_≡_};
 ghost use Prim.Native.Nat.{_+_, _-_, _≤_};
 ghost use lib.ListN.{length, take};
 ghost use Rattle.io.specs.Counts.{Counts};
-ghost use Rattle.lists.specs.Lists.{tabulate};
-ghost use Rattle.summary.specs.Grey.{greyAt, pixelsIn};
-ghost use Rattle.strips.specs.Pgm.{decimalOf, headerOf, pgmOf, Placed, Written};
+ghost use Rattle.strips.specs.Pgm.{decimalOf, headerOf, greysIn, pgmOf};
+ghost use Rattle.strips.specs.Inner.{BytesPlaced, Written};
 
 fn copy(from: &[u8], to: &mut [u8])
     requires { ⌜ length (now to) ≡ length (now from) ⌝ }
@@ -25,7 +24,7 @@ fn copy(from: &[u8], to: &mut [u8])
 // A text into the buffer at a place; the place after it.
 fn append(text: &[u8], out: &mut [u8], at: usize) -> usize
     requires { ⌜ at + length (now text) ≤ length (now out) ⌝ }
-    ensures { λ r. ⌜ Placed (now (text .entry)) at (now (out .entry)) r (now (out .exit)) ⌝ }
+    ensures { λ r. ⌜ BytesPlaced (now (text .entry)) at (now (out .entry)) r (now (out .exit)) ⌝ }
 {
     let end = at + text.len();
     copy(text, &mut out[at..end]);
@@ -35,7 +34,7 @@ fn append(text: &[u8], out: &mut [u8], at: usize) -> usize
 // A number into the buffer at a place, in at most twenty digits; the place after it.
 fn append_number(n: usize, out: &mut [u8], at: usize) -> usize
     requires { ⌜ at + 20 ≤ length (now out) ⌝ }
-    ensures { λ r. ⌜ Placed (decimalOf n) at (now (out .entry)) r (now (out .exit)) × (r ≤ at + 20) ⌝ }
+    ensures { λ r. ⌜ BytesPlaced (decimalOf n) at (now (out .entry)) r (now (out .exit)) × (r ≤ at + 20) ⌝ }
 {
     let mut digits = [0; 20];
     let k = io::decimal(n as u64, &mut digits);
@@ -57,7 +56,8 @@ fn put_header(width: usize, height: usize, out: &mut [u8]) -> usize
 // The grey values of all pixels into the buffer at a place, as far as there is room; the place after them.
 fn put_pixels(picture: &[u8], width: usize, height: usize, start: usize, out: &mut [u8]) -> usize
     requires { ⌜ start ≤ length (now out) ⌝ }
-    ensures { λ r. ⌜ Placed (tabulate (pixelsIn width height (length (now (picture .entry))) (length (now (out .entry)) - start)) (greyAt (now (picture .entry)))) start (now (out .entry)) r (now (out .exit)) ⌝ }
+    ensures { λ r.
+        ⌜ BytesPlaced (greysIn width height (now (picture .entry)) (length (now (out .entry)) - start)) start (now (out .entry)) r (now (out .exit)) ⌝ }
 {
     let most = records::least(picture.len() / 6, out.len() - start);
     let end = start + grey::pixels_of(width, height, most);

@@ -1,6 +1,6 @@
 // The refusals in words: document 01's number and name for each, and what it means for the picture at hand.
 use crate::say;
-use tiff::Limits;
+use header::Limits;
 
 // What this program allows, where a refusal may come of that.
 fn put_limits(limits: Limits) {

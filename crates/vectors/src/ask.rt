@@ -1,5 +1,5 @@
 // What a reading is asked for: the first eight numbers of a record.
-use tiff::Limits;
+use header::Limits;
 
 pub struct Ask {
     pub page: usize,

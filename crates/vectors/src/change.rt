@@ -1,7 +1,7 @@
 // One field of a handle, or one of the limits, changed: they are counted from 1 in the order in which they stand here, and 0 is none.
-use logluv_format::Format;
-use logluv_tiff::Handle;
-use tiff::Limits;
+use handle::Handle;
+use header::Limits;
+use picture::Format;
 
 pub struct Change {
     pub field: usize,

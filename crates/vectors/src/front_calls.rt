@@ -5,7 +5,7 @@ use crate::line::put;
 use crate::line::say;
 use checks::Verdict;
 use front::Found;
-use logluv_format::Format;
+use picture::Format;
 use seen::Reach;
 
 // A range is looked for in a file of zeros, at most this long.
@@ -41,7 +41,7 @@ fn put_found(found: Found) {
 fn run_format(numbers: &[u8], file: &[u8], map: &[u8]) {
     let a = ask::ask_of(numbers);
     let limits = a.limits;
-    match tiff::header::check_limits(file.len(), a.page, limits) {
+    match header::check_limits(file.len(), a.page, limits) {
         Verdict::Refused(n) => line::put_refusal(n, a.units),
         Verdict::Fine => put_found(front::read_format(file, map, a.page, limits, a.units)),
     }

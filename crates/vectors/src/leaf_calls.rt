@@ -87,7 +87,7 @@ fn put_verdict(v: Verdict) {
 }
 
 fn run_packets(call: Call, input: &[u8], output: &mut [u8]) {
-    put_verdict(logluv::validate(input, call.a, call.b, call.c, call.d));
+    put_verdict(packets::validate(input, call.a, call.b, call.c, call.d));
     put_verdict(logluv::decode(input, call.a, call.b, call.c, call.d, output));
     show(output);
 }
@@ -98,7 +98,7 @@ fn run_planes(call: Call, input: &[u8], output: &mut [u8]) {
 }
 
 fn put_uv(x: u8) {
-    put(b" ", luv::expand_uv(x) as usize);
+    put(b" ", pixel::expand_uv(x) as usize);
 }
 
 // No buffer here: uv of each byte of the input by itself.

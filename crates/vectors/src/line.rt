@@ -1,6 +1,6 @@
 // What is written of numbers, checksums and answers that several groups have.
 use libc::STDOUT_FILENO;
-use logluv_format::Format;
+use picture::Format;
 
 pub fn say(word: &[u8]) {
     io::write_all(STDOUT_FILENO, word);

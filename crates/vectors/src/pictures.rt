@@ -10,10 +10,10 @@ use crate::line::say;
 use crate::patchy_calls;
 use crate::paths;
 use crate::strict_calls;
-use logluv_tiff::Handle;
-use logluv_tiff::Inspected;
-use patchy::Room;
-use tiff::Limits;
+use admission::Room;
+use handle::Handle;
+use handle::Inspected;
+use header::Limits;
 ghost use Prim.Native.Nat.{_<_};
 ghost use Rattle.io.specs.Counts.{Counts};
 

@@ -10,10 +10,10 @@ use crate::line::put;
 use crate::line::say;
 use checks::Size;
 use checks::Told;
-use logluv_format::Format;
-use logluv_tiff::Handle;
-use logluv_tiff::Inspected;
-use tiff::Limits;
+use handle::Handle;
+use handle::Inspected;
+use header::Limits;
+use picture::Format;
 
 pub enum Strict {
     Reading,
@@ -146,7 +146,7 @@ pub fn run(call: Strict, numbers: &[u8], file: &[u8], other: &[u8]) {
     match call {
         Strict::Reading => run_reading(numbers, asked, file, other),
         Strict::Forged => run_changed(numbers, asked, file, other, no_handle()),
-        Strict::Bound => put_size(logluv_tiff::logluv_inspection_work_limit(
+        Strict::Bound => put_size(work_limit::logluv_inspection_work_limit(
             asked.page,
             asked.limits,
         )),
