@@ -6,16 +6,11 @@ use mathlib.Core.List.{List, [], _∷_}
 use lib.ListN.{length}
 use borrow.Author.Needs.{needs}
 use borrow.Author.Tests.{not-true, not-false}
-use Rattle.checks.specs.Numbers.{invalid, limit, toldNumber, toldLeft}
-use Rattle.checks.specs.Numbers as numbers
+use Rattle.checks.specs.Numbers.{invalid, toldNumber, toldLeft}
 use Rattle.checks.specs.Checks.{run, onPass}
-use Rattle.checks.specs.Buffers.{afterwards}
-use Rattle.checks.specs.Sizes.{within, most64, sizeNumber, sizeOr}
-use Rattle.checks.specs.declared.Size.{Size}
-use Rattle.checks.specs.declared.Size.the-variants as size-is
+use Rattle.checks.specs.Sizes.{most64}
 use Rattle.checks.specs.declared.Told.{Told}
 use Rattle.checks.specs.declared.Told.the-variants as told-is
-use Rattle.checks.specs.declared.Verdict.{Verdict}
 use Rattle.checks.proofs.Rules.{must-no, must-yes}
 use Rattle.seen.specs.Seen.{seen}
 use Rattle.header.specs.declared.Limits.{Limits}
@@ -23,7 +18,6 @@ use Rattle.inspection.specs.Inspection.{handleOf, inspectedOf}
 use Rattle.handle.specs.Handle.{inspectedNumber, inspectedLeft}
 use Rattle.decoding.specs.Strict.{showChecks, pictureOver, clearedOver}
 use Rattle.decoding.specs.Inner.{HandleShowable}
-use Rattle.work_limit.specs.WorkLimit.{workBound}
 use Rattle.handle.specs.declared.Handle.{Handle}
 use Rattle.handle.specs.declared.Inspected.{Inspected}
 use Rattle.handle.specs.declared.Inspected.the-variants as inspected-is
@@ -32,10 +26,8 @@ use Rattle.patchy.specs.Patchy as patchy
 use Rattle.patchy.specs.declared.Sizes.{Sizes}
 use Rattle.patchy.specs.declared.Reading.{Reading}
 use Rattle.patchy.specs.declared.Reading.the-variants as reading-is
-use Rattle.float64.specs.Float64.{samples}
-use Rattle.native_fp.specs.NativeFp.{summed, gathered}
 use Rattle.face_words.specs.Words.{wordsOf, sameWords}
-use Rattle.chelmesut.specs.Face.{wordsAfter, givesWords, wordsChecks, wordsDecodeTold, faceReading, verdict64, verdict3, Inspect, Decode, ReadPatchy, WorkLimit, Predictor64, Predictor3}
+use Rattle.chelmesut.specs.Face.{wordsAfter, givesWords, wordsChecks, wordsDecodeTold, faceReading, Inspect, Decode, ReadPatchy}
 
 module _
     (file : List ℕ)
@@ -183,42 +175,3 @@ module _ (file : List ℕ) (page : ℕ) (l : Limits) (map : List ℕ) (units : �
       read-too s u q = as-read 0 u _ (ap patchy.readingNumber (sym q)) (ap patchy.readingLeft (sym q)) (ap told-sizes (sym q))
 
 pub ruleset patching = (not-read, read-too, needs)
-
-module _ (page : ℕ) (l : Limits) (old : ℕ) {m : Limits} (em : m ≡ l) {r : Size} (found : r ≡ within (workBound page m)) where
-  bound-is : {s : Size} → r ≡ s → s ≡ within (workBound page l)
-  bound-is q = sym q ∙ rw em at found
-
-  pub over : (n : ℕ) → r ≡ size-is.Over → n ≡ limit → WorkLimit page l old n old
-  over n q en = record { number-is = en ∙ ap sizeNumber (bound-is q); limit-is = ap (λ (s : Size). sizeOr s old) (bound-is q) }
-
-  pub fits : (n : ℕ) → r ≡ size-is.Fits n → WorkLimit page l old 0 n
-  fits n q = record { number-is = ap sizeNumber (bound-is q); limit-is = ap (λ (s : Size). sizeOr s old) (bound-is q) }
-
-pub ruleset bounding = (over, fits, needs)
-
-module _ (raw : List ℕ) (width height channels reset : ℕ) (little predict : Bool) (output : List ℕ) where
-  abbrev Converted : ℕ → List ℕ → Type 0
-  Converted = Predictor64 raw width height channels reset little predict output
-
-  abbrev sampled : Verdict → List ℕ
-  sampled v = afterwards v (samples little predict width height channels reset raw) output
-
-  pub converted : (x : List ℕ) (n : ℕ) {v : Verdict} → v ≡ verdict64 raw width height channels reset little predict output
-      → n ≡ numbers.verdictNumber v → x ≡ sampled v → Converted n x
-  converted x n ev en ex = record { number-is = en ∙ ap numbers.verdictNumber ev; output-is = ex ∙ ap sampled ev }
-
-module _ (raw : List ℕ) (row channels bytes : ℕ) (little : Bool) (scratch output : List ℕ) where
-  abbrev Summed : ℕ → List ℕ → List ℕ → Type 0
-  Summed = Predictor3 raw row channels bytes little scratch output
-
-  abbrev sums : Verdict → List ℕ
-  sums v = afterwards v (summed row channels raw) scratch
-
-  abbrev gathers : Verdict → List ℕ
-  gathers v = afterwards v (gathered row channels bytes little raw) output
-
-  pub summed-up : (y x : List ℕ) (n : ℕ) {v : Verdict} → v ≡ verdict3 raw row channels bytes little scratch output
-      → n ≡ numbers.verdictNumber v → y ≡ sums v → x ≡ gathers v → Summed n y x
-  summed-up y x n ev en ey ex = record { number-is = en ∙ ap numbers.verdictNumber ev; scratch-is = ey ∙ ap sums ev; output-is = ex ∙ ap gathers ev }
-
-pub ruleset predicting = (converted, summed-up, needs)

@@ -5,25 +5,19 @@ use mathlib.Core.Bool.{Bool, false}
 use mathlib.Core.List.{List, [], _∷_}
 use lib.ListN.{length}
 use Rattle.checks.specs.Numbers.{invalid, toldNumber, toldLeft}
-use Rattle.checks.specs.Checks.{Check, must, run, verdict, onPass}
-use Rattle.checks.specs.Numbers as numbers
-use Rattle.checks.specs.Sizes.{within, most64, sizeNumber, sizeOr}
-use Rattle.checks.specs.Buffers.{afterwards}
+use Rattle.checks.specs.Checks.{Check, must, run, onPass}
+use Rattle.checks.specs.Sizes.{most64}
 use Rattle.checks.specs.declared.Told.{Told}
-use Rattle.checks.specs.declared.Verdict.{Verdict}
 use Rattle.seen.specs.Seen.{Seen, seen}
 use Rattle.header.specs.declared.Limits.{Limits}
 use Rattle.inspection.specs.Inspection.{handleOf, inspectedOf}
 use Rattle.handle.specs.Handle.{inspectedNumber, inspectedLeft}
 use Rattle.decoding.specs.Strict.{showChecks, pictureOver, clearedOver}
-use Rattle.work_limit.specs.WorkLimit.{workBound}
 use Rattle.handle.specs.declared.Inspected.{Inspected}
 use Rattle.handle.specs.declared.Inspected.the-variants as inspected-is
 use Rattle.patchy.specs.Patchy as patchy
 use Rattle.patchy.specs.declared.Reading.{Reading}
 use Rattle.face_words.specs.Words.{wordsOf, sameWords}
-use Rattle.float64.specs.Float64.{checks64, samples}
-use Rattle.native_fp.specs.NativeFp.{fpChecks, summed, gathered}
 
 -- after an inspection the words are those of its handle; a refusal leaves them
 abbrev pub wordsAfter : Inspected → List ℕ → List ℕ
@@ -72,24 +66,3 @@ module _ (file : List ℕ) (page : ℕ) (l : Limits) where
       pub scratch-is : scratch′ ≡ patchy.scratchAfter (seen file map) page faceReading scratch
       pub quality-is : quality′ ≡ patchy.qualityAfter (seen file map) page faceReading quality
       pub words-are : words′ ≡ patchy.onReading faceReading (patchy.readingValues faceReading) words
-
-pub record WorkLimit (page : ℕ) (l : Limits) (old number new : ℕ) : Type 0 where
-  pub number-is : number ≡ sizeNumber (within (workBound page l))
-  pub limit-is : new ≡ sizeOr (within (workBound page l)) old
-
-module _ (raw : List ℕ) (width height channels reset : ℕ) (little predict : Bool) (output : List ℕ) where
-  abbrev pub verdict64 : Verdict
-  verdict64 = verdict (checks64 width height channels reset (length raw) (length output))
-
-  pub record Predictor64 (number : ℕ) (output′ : List ℕ) : Type 0 where
-    pub number-is : number ≡ numbers.verdictNumber verdict64
-    pub output-is : output′ ≡ afterwards verdict64 (samples little predict width height channels reset raw) output
-
-module _ (raw : List ℕ) (row channels bytes : ℕ) (little : Bool) (scratch output : List ℕ) where
-  abbrev pub verdict3 : Verdict
-  verdict3 = verdict (fpChecks row channels bytes (length raw) (length scratch) (length output))
-
-  pub record Predictor3 (number : ℕ) (scratch′ output′ : List ℕ) : Type 0 where
-    pub number-is : number ≡ numbers.verdictNumber verdict3
-    pub scratch-is : scratch′ ≡ afterwards verdict3 (summed row channels raw) scratch
-    pub output-is : output′ ≡ afterwards verdict3 (gathered row channels bytes little raw) output

@@ -1,15 +1,12 @@
 // The C face of the reader: each function of include/chelmesut.h is one call of the proved library, with numbers for its answers.
 // A C caller passes a slice as a pointer and a length, and numbers of 64 bits.
 use checks::INVALID;
-use checks::LIMIT;
-use checks::Size;
 use checks::Told;
-use checks::Verdict;
 use handle::Inspected;
-use header::Limits;
 use patchy::Reading;
 ghost use Rattle.face_words.specs.Words.{limitsOf};
-ghost use Rattle.chelmesut.specs.Face.{Inspect, Decode, ReadPatchy, WorkLimit, Predictor64, Predictor3};
+ghost use Rattle.chelmesut.specs.Face.{Inspect, Decode, ReadPatchy};
+ghost use Rattle.face_leaves.specs.Leaves.{WorkLimit, Predictor64, Predictor3};
 
 // Strict inspection.
 #[no_mangle]
@@ -168,21 +165,16 @@ pub extern "C" fn chelmesut_work_limit(
         (limitsOf «max_input» «max_output» «max_dimension» «max_directories» «max_tags» «max_segments»)
         (now (limit .entry)) r (now (limit .exit)) ⌝ }
 {
-    let limits = face_words::limits_of(
+    face_leaves::bound(
+        page,
         max_input,
         max_output,
         max_dimension,
         max_directories,
         max_tags,
         max_segments,
-    );
-    match work_limit::logluv_inspection_work_limit(page, limits) {
-        Size::Over => face_words::wide(LIMIT),
-        Size::Fits(n) => {
-            *limit = n;
-            0
-        }
-    }
+        limit,
+    )
 }
 
 // The 64-bit integer predictor.
@@ -200,7 +192,7 @@ pub extern "C" fn chelmesut_predictor64(
     ensures { λ r. ⌜ Predictor64 (now (raw .entry)) width height channels «reset_width» «little_endian» predict
         (now (output .entry)) r (now (output .exit)) ⌝ }
 {
-    face_words::number_of(float64::convert(
+    face_leaves::predictor64(
         raw,
         width,
         height,
@@ -209,7 +201,7 @@ pub extern "C" fn chelmesut_predictor64(
         little_endian,
         predict,
         output,
-    ))
+    )
 }
 
 // The floating predictor.
@@ -226,7 +218,7 @@ pub extern "C" fn chelmesut_predictor3(
     ensures { λ r. ⌜ Predictor3 (now (raw .entry)) row channels «sample_bytes» «little_endian»
         (now (scratch .entry)) (now (output .entry)) r (now (scratch .exit)) (now (output .exit)) ⌝ }
 {
-    face_words::number_of(native_fp::decode(
+    face_leaves::predictor3(
         raw,
         row,
         channels,
@@ -234,5 +226,5 @@ pub extern "C" fn chelmesut_predictor3(
         little_endian,
         scratch,
         output,
-    ))
+    )
 }

@@ -21,7 +21,7 @@ use Rattle.seen.proofs.Blocks.{need-inside, need-outside, need-missing}
 use Rattle.seen.proofs.Words.{there-part, inside-there}
 use Rattle.entries.specs.Values.{countAt, numeric, hasValues, sizeOf, wordAt, inField, placeOf, valueAt, valueIs, valueNumber}
 use Rattle.entries.specs.Inner.{WordThere}
-use Rattle.tiff.proofs.Entries.{type-there}
+use Rattle.tags.proofs.Entries.{type-there}
 use Rattle.entries.specs.declared.Value.{Value}
 use Rattle.entries.specs.declared.Value.the-variants.{Outside, Missing, Number}
 

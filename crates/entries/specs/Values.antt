@@ -7,7 +7,7 @@ use Rattle.checks.specs.Numbers.{truncated, notArrived}
 use Rattle.seen.specs.Seen.{Seen, two, four, reachOf}
 use Rattle.seen.specs.declared.Reach.{Reach}
 use Rattle.seen.specs.declared.Reach.the-variants as reach-is
-use Rattle.tiff.specs.Directory.{typeAt}
+use Rattle.tags.specs.Tags.{typeAt}
 use Rattle.entries.specs.declared.Value.{Value}
 use Rattle.entries.specs.declared.Value.the-variants.{Outside, Missing, Number}
 

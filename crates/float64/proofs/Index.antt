@@ -8,11 +8,12 @@ use lib.ListN.{length, take, drop, getD, length-drop}
 use lib.Seq.{length-take-le, getD-take, getD-drop}
 use Rattle.lists.specs.Lists.{span}
 use Rattle.lists.proofs.Rows.{joined-at, perRow-at}
-use Rattle.float64.specs.Float64.{numberFrom, word, value, sample, row64, samples, size64}
+use Rattle.words64.specs.Words64.{numberFrom, word}
+use Rattle.rows64.specs.Rows64.{value, sample, row64}
+use Rattle.float64.specs.Float64.{samples, size64}
 use Rattle.lists.proofs.Overlay.{listed}
-use Rattle.float64.proofs.Digits.{digit-at}
-use Rattle.float64.proofs.Written.{bytesOf, eight}
-use Rattle.float64.proofs.Picture.{row-length}
+use Rattle.words64.proofs.Digits.{digit-at}
+use Rattle.rows64.proofs.Written.{bytesOf, eight, row-length}
 
 -- byte j of sample n of row y is digit j of that sample
 pub decoded : (little predict : Bool) (w h ch reset : ℕ) (raw : List ℕ) → size64 w h ch ≤ length raw → (y n j : ℕ) → y < h → n < w * ch → j < 8

@@ -1,5 +1,5 @@
 -- The picture row by row: the generic writer of rows, at rows of eight bytes a sample.
-use Prim.Native.Nat.{ℕ, _+_, _-_, _*_, _<_, _≤_}
+use Prim.Native.Nat.{ℕ, _+_, _-_, _<_, _≤_}
 use mathlib.Core.Path.{_≡_, sym, _∙_}
 use mathlib.Core.List.{List}
 use mathlib.Core.Bool.{Bool}
@@ -7,14 +7,12 @@ use native.Mathlib.Omega.{arith}
 use lib.ListN.{length}
 use borrow.Rule.Slice.PartMut.{midOf, putMid, mid-len}
 use Rattle.lists.specs.Lists.{overlay}
-use Rattle.lists.proofs.Rows.{Rowing, rowing-in, rowing-out, rowing-more, rowing-all, joined-length}
-use Rattle.float64.specs.Float64.{row64, samples}
-use Rattle.float64.specs.Inner.{RowFits, Fitting}
-use Rattle.float64.proofs.Written.{bytesOf, eight}
-
-pub row-length : (little predict : Bool) (w ch reset : ℕ) (row : List ℕ) → length (row64 little predict w ch reset row) ≡ 8 * (w * ch)
-unfolding row64
-row-length little predict w ch reset row = joined-length (bytesOf little predict ch reset row) 8 (w * ch) (eight _ _) ∙ omega arith
+use Rattle.lists.proofs.Rows.{Rowing, rowing-in, rowing-out, rowing-more, rowing-all}
+use Rattle.rows64.specs.Rows64.{row64}
+use Rattle.float64.specs.Float64.{samples}
+use Rattle.rows64.specs.Inner.{RowFits}
+use Rattle.float64.specs.Inner.{Fitting}
+use Rattle.rows64.proofs.Written.{row-length}
 
 module _ (little predict : Bool) (w h ch reset size : ℕ) (raw old out : List ℕ) (y at : ℕ)
     (p : Fitting w h ch reset size (length raw) (length old)) (s : Rowing (row64 little predict w ch reset) size size h raw old out y at at) where

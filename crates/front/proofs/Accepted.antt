@@ -15,14 +15,16 @@ use Rattle.checks.proofs.Exact.{accepted, both, cost-then, fine}
 use Rattle.seen.specs.Seen.{Seen, There}
 use Rattle.header.specs.Header.{headerChecks, bigEndian, firstOf, HeaderFine}
 use Rattle.checks.specs.declared.Verdict.the-variants as verdict-is
-use Rattle.tiff.specs.Directory.{entriesAt, slotsAt}
+use Rattle.directory.specs.Directory.{entriesAt, slotsAt}
 use Rattle.tiff.specs.Walk.{walkChecks}
-use Rattle.tiff.specs.Container.{DirectoryFine, WalkFine}
+use Rattle.directory.specs.Accepted.{DirectoryFine}
+use Rattle.tiff.specs.Accepted.{WalkFine}
 use Rattle.header.specs.declared.Limits.{Limits}
 use Rattle.header.proofs.Orders.{header-free}
 use Rattle.header.proofs.Accepted.{header-fine}
-use Rattle.tiff.specs.Slots.{stripOffsets, stripByteCounts, tileOffsets, tileByteCounts, entryIn, absent}
-use Rattle.tiff.proofs.Container.{slots-there, walk-fine, walk-cost}
+use Rattle.tags.specs.Slots.{stripOffsets, stripByteCounts, tileOffsets, tileByteCounts, entryIn, absent}
+use Rattle.directory.proofs.Accepted.{slots-there}
+use Rattle.tiff.proofs.Accepted.{walk-fine, walk-cost}
 use Rattle.picture.specs.Inner.{Valid, Readable}
 use Rattle.picture.specs.declared.Format.{Format}
 use Rattle.profile.specs.Profile.{numbersOf, shapeOf, profileChecks, formatWith, formatOf}

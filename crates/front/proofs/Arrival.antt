@@ -15,11 +15,11 @@ use Rattle.seen.specs.Seen.{Seen, seen, arrived, whole, there, Agree}
 use Rattle.seen.proofs.Blocks.{true-false}
 use Rattle.seen.proofs.Alike.{same-outcome, came-whole, whole-came}
 use Rattle.header.specs.Header.{headerChecks, orderChecks, bigEndian, firstOf}
-use Rattle.tiff.specs.Directory.{entriesAt, nextAt, countChecks, directoryFeeChecks, tagChecks, directoryChecks}
+use Rattle.directory.specs.Directory.{entriesAt, nextAt, countChecks, directoryFeeChecks, tagChecks, directoryChecks}
 use Rattle.tiff.specs.Walk.{walkChecks}
 use Rattle.entries.specs.Values.{sizeOf, placeOf, valueAt}
 use Rattle.header.specs.declared.Limits.{Limits}
-use Rattle.tiff.specs.Slots.{bitsPerSample, tileOffsets, extraSamples, sampleFormat, entryIn, present}
+use Rattle.tags.specs.Slots.{bitsPerSample, tileOffsets, extraSamples, sampleFormat, entryIn, present}
 use Rattle.profile.specs.Profile.{scalars, scalarChecks, step1, step2, step3, eachIs, threeChecks, step4, step5, step6, step7, step8, numbersOf, shapeOf, shapeIn, profileChecks}
 use Rattle.profile.specs.Inner.{from7, from5, from2}
 use Rattle.profile.specs.declared.Numbers.{Numbers}

@@ -18,11 +18,11 @@ use Rattle.header.specs.declared.Limits.{Limits}
 use Rattle.header.specs.declared.Start.{Start}
 use Rattle.header.specs.declared.Start.the-variants as start-is
 use Rattle.header.proofs.Orders.{header-free}
-use Rattle.tiff.specs.Directory.{entriesAt, slotsAt}
+use Rattle.directory.specs.Directory.{entriesAt, slotsAt}
 use Rattle.tiff.specs.Walk.{walkChecks, pageAt, PageIs}
-use Rattle.tiff.specs.Inner.{SlotsThere}
-use Rattle.tiff.specs.declared.Directory.{Directory}
-use Rattle.tiff.proofs.Container.{page-there}
+use Rattle.tags.specs.Inner.{SlotsThere}
+use Rattle.directory.specs.declared.Directory.{Directory}
+use Rattle.tiff.proofs.Accepted.{page-there}
 use Rattle.picture.specs.declared.Format.{Format}
 use Rattle.profile.specs.Profile.{profileChecks, profiled, formatOf, profileFound}
 use Rattle.profile.specs.declared.Profile.{Profile}

@@ -4,7 +4,7 @@ use mathlib.Core.Path.{_≡_}
 use Rattle.seen.specs.Seen.{Seen}
 use Rattle.header.specs.Header.{bigEndian, firstOf, HeaderFine}
 use Rattle.header.specs.declared.Limits.{Limits}
-use Rattle.tiff.specs.Container.{WalkFine, walkFee}
+use Rattle.tiff.specs.Accepted.{WalkFine, walkFee}
 use Rattle.profile.specs.Accepted.{ProfileFine}
 use Rattle.front.specs.Front.{profileFee, slotsSeen}
 

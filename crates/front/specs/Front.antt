@@ -7,7 +7,7 @@ use Rattle.checks.specs.declared.Told.the-variants as told-is
 use Rattle.seen.specs.Seen.{Seen}
 use Rattle.header.specs.Header.{headerChecks, bigEndian, firstOf}
 use Rattle.header.specs.declared.Limits.{Limits}
-use Rattle.tiff.specs.Directory.{entriesAt, slotsAt}
+use Rattle.directory.specs.Directory.{entriesAt, slotsAt}
 use Rattle.tiff.specs.Walk.{walkChecks, pageAt}
 use Rattle.profile.specs.Profile.{profileChecks, formatOf}
 use Rattle.picture.specs.declared.Format.{Format}

@@ -5,7 +5,7 @@ use mathlib.Core.List.{List, _∷_, _++_}
 use Rattle.checks.specs.Checks.{Check, pay, run}
 use Rattle.seen.specs.Seen.{Seen}
 use Rattle.header.specs.declared.Limits.{Limits}
-use Rattle.tiff.specs.Directory.{entriesAt, slotsAt}
+use Rattle.directory.specs.Directory.{entriesAt, slotsAt}
 use Rattle.tiff.specs.Walk.{walkChecks, pageAt}
 use Rattle.profile.specs.Profile.{profileChecks, formatOf}
 use Rattle.front.specs.Front.{profileFee, found}

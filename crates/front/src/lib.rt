@@ -6,7 +6,7 @@ use picture::Format;
 use profile::Profile;
 ghost use mathlib.Core.Path.{_≡_};
 ghost use Rattle.seen.specs.Seen.{seen};
-ghost use Rattle.tiff.specs.Inner.{SlotsThere};
+ghost use Rattle.tags.specs.Inner.{SlotsThere};
 ghost use Rattle.front.specs.Front.{foundOf};
 ghost use Rattle.front.specs.Inner.{foundPaid, foundPage};
 

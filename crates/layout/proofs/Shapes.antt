@@ -9,7 +9,7 @@ use borrow.Author.Tests.{lt-ltb, le-ltb}
 use Rattle.checks.specs.Numbers.{invalid}
 use Rattle.checks.specs.Checks.{Check, must, verdict}
 use Rattle.checks.specs.declared.Verdict.{Verdict}
-use Rattle.tiff.specs.Slots.{stripOffsets, stripByteCounts, tileWidth, tileLength, tileByteCounts, entryIn, absent}
+use Rattle.tags.specs.Slots.{stripOffsets, stripByteCounts, tileWidth, tileLength, tileByteCounts, entryIn, absent}
 use Rattle.profile.specs.Profile.{shapeOf, step6}
 use Rattle.profile.specs.declared.Numbers.{Numbers}
 use Rattle.profile.specs.declared.Shape.{Shape}

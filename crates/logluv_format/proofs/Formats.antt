@@ -13,8 +13,8 @@ use Rattle.checks.specs.declared.Verdict.{Verdict}
 use Rattle.checks.specs.declared.Verdict.the-variants as verdict-is
 use Rattle.checks.proofs.Exact.{fine, holds-then, verdict-then, verdict-stops}
 use Rattle.seen.specs.Seen.{Seen}
-use Rattle.tiff.specs.Slots.{stripOffsets, stripByteCounts, tileOffsets, tileByteCounts, extraSamples, entryIn}
-use Rattle.tiff.specs.Inner.{EntryThere, SlotsThere}
+use Rattle.tags.specs.Slots.{stripOffsets, stripByteCounts, tileOffsets, tileByteCounts, extraSamples, entryIn}
+use Rattle.tags.specs.Inner.{EntryThere, SlotsThere}
 use Rattle.header.specs.declared.Limits.{Limits}
 use Rattle.picture.specs.declared.Format.{Format}
 use Rattle.profile.specs.Profile.{step1, step2, step3, step4, step5, step6, step7, step8, numbersOf, shapeOf, shapeIn, acrossOf, segmentsOf, outputOf, offsetsIn, countsIn, profileChecks, profiled, formatWith, profileFound}

@@ -1,3 +1,1 @@
-pub mod Samples
-pub mod Steps
 pub mod Formats

@@ -2,9 +2,10 @@
 // thin: it takes these apart, calls the plain form, and puts the units left into the budget.
 use header::Limits;
 use image_info::Info;
-use plain_image::Answer;
+use plain_patchy::Answer;
 ghost use mathlib.Core.Path.{_≡_};
-ghost use Rattle.plain_image.specs.Image.{ImageInspected, ImageDecoded, PatchyRead};
+ghost use Rattle.plain_image.specs.Image.{ImageInspected, ImageDecoded};
+ghost use Rattle.plain_patchy.specs.Read.{PatchyRead};
 
 // The units at hand.
 pub struct Budget {
@@ -77,7 +78,7 @@ pub fn read_patchy(
         (now (output .entry)) (now (scratch .entry)) (now (quality .entry)) (now (budget .entry) .remaining)
         r (now (budget .exit) .remaining) (now (output .exit)) (now (scratch .exit)) (now (quality .exit)) ⌝ }
 {
-    let taken = plain_image::read(
+    let taken = plain_patchy::read(
         file,
         map,
         page,

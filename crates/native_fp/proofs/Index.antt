@@ -9,11 +9,13 @@ use lib.ListN.{length, take, drop, getD}
 use lib.Seq.{getD-take, getD-drop}
 use Rattle.lists.specs.Sums.{summedBack}
 use Rattle.lists.proofs.Overlay.{getD-tabulate}
-use Rattle.native_fp.specs.NativeFp.{plane, summedRow, gatheredRow, summed, gathered}
+use Rattle.fp_rows.specs.FpRows.{plane, summedRow, gatheredRow}
+use Rattle.native_fp.specs.NativeFp.{summed, gathered}
 use Rattle.lists.proofs.Counters.{exactly, grouped-in}
-use Rattle.native_fp.proofs.Gathering.{source}
+use Rattle.fp_rows.proofs.Gathering.{source}
 use Rattle.lists.proofs.Rows.{perRow-at}
-use Rattle.native_fp.proofs.RowByRow.{summedRow-length, gatheredRow-length, summed-length}
+use Rattle.fp_rows.proofs.RowByRow.{summedRow-length, gatheredRow-length}
+use Rattle.native_fp.proofs.Passes.{summed-length}
 
 plane-in : (little : Bool) (bytes b : ℕ) → b < bytes → plane little bytes b < bytes
 plane-in true bytes b h = omega arith

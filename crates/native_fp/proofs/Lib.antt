@@ -1,5 +1,3 @@
 pub mod Sizes
-pub mod Summing
-pub mod Gathering
-pub mod RowByRow
+pub mod Passes
 pub mod Index

@@ -1,25 +1,13 @@
 -- Predictor 3, by TIFF Technical Note 3: bytes summed along each row at the distance of the channels, then planes gathered into samples.
-use Prim.Native.Nat.{ℕ, _+_, _-_, _*_, _/_, _%_}
+use Prim.Native.Nat.{ℕ, _*_, _/_, _%_}
 use mathlib.Core.List.{List, [], _∷_}
 use mathlib.Core.Bool.{Bool, true}
-use lib.ListN.{length, getD}
+use lib.ListN.{length}
 use lib.Dec.{ltb, leb, eqb}
-use Rattle.lists.specs.Lists.{pick, tabulate, perRow}
-use Rattle.lists.specs.Sums.{summedBack}
+use Rattle.lists.specs.Lists.{pick, perRow}
+use Rattle.fp_rows.specs.FpRows.{summedRow, gatheredRow}
 use Rattle.checks.specs.Numbers.{invalid, unsupported, outputTooSmall}
 use Rattle.checks.specs.Checks.{Check, must}
-
--- a row's bytes, each with those before it in its channel, modulo 256
-unfoldable pub summedRow : ℕ → ℕ → List ℕ → List ℕ
-summedRow size ch row = tabulate size (λ n. summedBack 8 (λ i. getD row i 0) ch n (n / ch))
-
--- byte b of sample s lies in the plane of its significance; the planes come most significant first
-abbrev pub plane : Bool → ℕ → ℕ → ℕ
-plane little bytes b = pick little (bytes - 1 - b) b
-
-unfoldable pub gatheredRow : ℕ → ℕ → Bool → List ℕ → List ℕ
-gatheredRow size bytes little row =
-    tabulate size (λ k. getD row (plane little bytes (k % bytes) * (size / bytes) + k / bytes) 0)
 
 -- the whole input, row by row
 unfoldable pub summed : ℕ → ℕ → List ℕ → List ℕ

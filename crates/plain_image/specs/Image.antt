@@ -17,11 +17,6 @@ use Rattle.decoding.specs.Strict.{decodeChecks, pictureOver, clearedOver}
 use Rattle.handle.specs.declared.Handle.{Handle}
 use Rattle.handle.specs.declared.Inspected.{Inspected}
 use Rattle.handle.specs.declared.Inspected.the-variants as inspected-is
-use Rattle.patchy.specs.Patchy as patchy
-use Rattle.patchy.specs.declared.Sizes.{Sizes}
-use Rattle.patchy.specs.declared.Reading.{Reading}
-use Rattle.patchy.specs.declared.Reading.the-variants as reading-is
-use Rattle.plain_image.specs.declared.Answer.{Answer}
 use Rattle.image_info.specs.declared.Info.{Info}
 
 -- what stands where nothing was accepted: every number 0
@@ -47,9 +42,6 @@ noFormat = record {
 abbrev pub noHandle : Handle
 noHandle = record { format = noFormat; page = 0; scratch = 0; work = 0 }
 
-abbrev pub noSizes : Sizes
-noSizes = record { width = 0; height = 0; «block_width» = 0; «block_height» = 0; segments = 0 }
-
 -- what an image carries: 0, the limits and the handle; after a refusal its number, and all else is 0
 abbrev pub refused : ℕ → Info
 refused e = record { number = e; limits = noLimits; handle = noHandle }
@@ -57,11 +49,6 @@ refused e = record { number = e; limits = noLimits; handle = noHandle }
 abbrev pub infoOf : Limits → Inspected → Info
 infoOf l (inspected-is.Picture h left) = record { number = 0; limits = l; handle = h }
 infoOf l (inspected-is.Refused e left) = refused e
-
--- the answer of patchy reading likewise
-abbrev pub answerOf : Reading → Answer
-answerOf (reading-is.Picture s left) = record { number = 0; sizes = s }
-answerOf (reading-is.Refused e left) = record { number = e; sizes = noSizes }
 
 -- an inspection with so many units at hand: what the image carries, and the units left
 pub record ImageInspected (file : List ℕ) (page : ℕ) (l : Limits) (units : ℕ) (info : Info) (left : ℕ) : Type 0 where
@@ -82,15 +69,3 @@ module _ (file : List ℕ) (i : Info) (output scratch : List ℕ) (units : ℕ) 
     pub left-is : left ≡ toldLeft imageDecodeTold
     pub output-is : output′ ≡ onPass imageDecodeTold (pictureOver (seen file []) (i .handle) output) output
     pub scratch-is : scratch′ ≡ onPass imageDecodeTold (clearedOver (i .handle) scratch) scratch
-
--- patchy reading: the answer, the units left, the three buffers afterwards
-module _ (file map : List ℕ) (page : ℕ) (l : Limits) (output scratch quality : List ℕ) (units : ℕ) where
-  abbrev pub imageReading : Reading
-  imageReading = patchy.reading file map page l output scratch quality units
-
-  pub record PatchyRead (answer : Answer) (left : ℕ) (output′ scratch′ quality′ : List ℕ) : Type 0 where
-    pub answer-is : answer ≡ answerOf imageReading
-    pub left-is : left ≡ patchy.readingLeft imageReading
-    pub output-is : output′ ≡ patchy.outputAfter (seen file map) page imageReading output
-    pub scratch-is : scratch′ ≡ patchy.scratchAfter (seen file map) page imageReading scratch
-    pub quality-is : quality′ ≡ patchy.qualityAfter (seen file map) page imageReading quality

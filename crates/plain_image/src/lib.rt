@@ -5,17 +5,9 @@ use handle::Handle;
 use handle::Inspected;
 use header::Limits;
 use image_info::Info;
-use patchy::Reading;
-use patchy::Sizes;
 use picture::Format;
 ghost use mathlib.Core.Path.{_≡_};
-ghost use Rattle.plain_image.specs.Image.{refused, noSizes, ImageInspected, ImageDecoded, PatchyRead};
-
-// The answer of patchy reading: 0 and the picture's sizes, or a refusal's number and sizes of 0.
-pub struct Answer {
-    pub number: u8,
-    pub sizes: Sizes,
-}
+ghost use Rattle.plain_image.specs.Image.{refused, ImageInspected, ImageDecoded};
 
 // What inspection gives, and the units left.
 pub struct Inspection {
@@ -26,12 +18,6 @@ pub struct Inspection {
 // The number of a decode's answer, and the units left.
 pub struct Decoded {
     pub number: u8,
-    pub left: usize,
-}
-
-// The answer of patchy reading, and the units left.
-pub struct Taken {
-    pub answer: Answer,
     pub left: usize,
 }
 
@@ -116,49 +102,5 @@ pub fn decode(
     match logluv_tiff::decode(input, limits, handle, left, output, scratch) {
         Told::Refused(e, u) => Decoded { number: e, left: u },
         Told::Passed(u) => Decoded { number: 0, left: u },
-    }
-}
-
-fn no_sizes() -> Sizes
-    ensures { λ r. ⌜ r ≡ noSizes ⌝ }
-{
-    Sizes {
-        width: 0,
-        height: 0,
-        block_width: 0,
-        block_height: 0,
-        segments: 0,
-    }
-}
-
-pub fn read(
-    file: &[u8],
-    map: &[u8],
-    page: usize,
-    limits: Limits,
-    output: &mut [u8],
-    scratch: &mut [u8],
-    quality: &mut [u8],
-    left: usize,
-) -> Taken
-    ensures { λ r. ⌜ PatchyRead (now (file .entry)) (now (map .entry)) page limits
-        (now (output .entry)) (now (scratch .entry)) (now (quality .entry)) left
-        (r .answer) (r .left) (now (output .exit)) (now (scratch .exit)) (now (quality .exit)) ⌝ }
-{
-    match patchy::read(file, map, page, limits, left, output, scratch, quality) {
-        Reading::Refused(e, u) => Taken {
-            answer: Answer {
-                number: e,
-                sizes: no_sizes(),
-            },
-            left: u,
-        },
-        Reading::Picture(sizes, u) => Taken {
-            answer: Answer {
-                number: 0,
-                sizes: sizes,
-            },
-            left: u,
-        },
     }
 }

@@ -13,7 +13,7 @@ use Rattle.checks.proofs.Exact.{fine, both}
 use Rattle.geometry.specs.Geometry.{mostSide}
 use Rattle.seen.specs.Seen.{Seen}
 use Rattle.seen.proofs.Blocks.{true-false}
-use Rattle.tiff.specs.Slots.{bitsPerSample, sampleFormat, stripOffsets, stripByteCounts, tileWidth, tileLength, tileOffsets, tileByteCounts, extraSamples, entryIn, absent}
+use Rattle.tags.specs.Slots.{bitsPerSample, sampleFormat, stripOffsets, stripByteCounts, tileWidth, tileLength, tileOffsets, tileByteCounts, extraSamples, entryIn, absent}
 use Rattle.header.specs.declared.Limits.{Limits}
 use Rattle.picture.specs.Inner.{Valid}
 use Rattle.picture.specs.declared.Format.{Format}

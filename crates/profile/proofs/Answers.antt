@@ -11,7 +11,7 @@ use Rattle.checks.specs.Checks.{cost}
 use Rattle.checks.specs.declared.Verdict.{Verdict}
 use Rattle.checks.specs.declared.Verdict.the-variants as verdict-is
 use Rattle.seen.specs.Seen.{Seen}
-use Rattle.tiff.specs.Slots.{tileOffsets, defaults, entryIn, present}
+use Rattle.tags.specs.Slots.{tileOffsets, defaults, entryIn, present}
 use Rattle.header.specs.declared.Limits.{Limits}
 use Rattle.picture.specs.declared.Format.{Format}
 use Rattle.profile.specs.Profile.{scalars, scalarChecks, step2, step3, eachIs, threeChecks, step4, step5, step6, step7, step8, numbersOf, shapeOf, profileChecks, profiled, profileNumber}

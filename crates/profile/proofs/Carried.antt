@@ -15,8 +15,8 @@ use Rattle.checks.proofs.Exact.{both, holds-then, holds-both}
 use Rattle.seen.specs.Seen.{Seen, there, There}
 use Rattle.seen.proofs.Blocks.{true-false}
 use Rattle.seen.proofs.Words.{there-holds, holds-there}
-use Rattle.tiff.specs.Slots.{bitsPerSample, sampleFormat, entryIn}
-use Rattle.tiff.specs.Directory.{typeAt}
+use Rattle.tags.specs.Slots.{bitsPerSample, sampleFormat, entryIn}
+use Rattle.tags.specs.Tags.{typeAt}
 use Rattle.entries.specs.Values.{countAt, numeric, hasValues, sizeOf, placeOf, valueAt}
 use Rattle.profile.specs.Profile.{carries, scalars, scalarFine, scalarChecks, step1, eachIs, threeChecks, step4, step8}
 use Rattle.profile.specs.Accepted.{Carries, ThreeFine}

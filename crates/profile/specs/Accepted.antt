@@ -7,8 +7,8 @@ use mathlib.Core.Bool.{Bool}
 use lib.ListN.{getD}
 use Rattle.lists.specs.Lists.{lesser}
 use Rattle.seen.specs.Seen.{Seen, There}
-use Rattle.tiff.specs.Slots.{bitsPerSample, stripOffsets, stripByteCounts, tileWidth, tileLength, tileOffsets, tileByteCounts, extraSamples, sampleFormat, entryIn}
-use Rattle.tiff.specs.Directory.{typeAt}
+use Rattle.tags.specs.Slots.{bitsPerSample, stripOffsets, stripByteCounts, tileWidth, tileLength, tileOffsets, tileByteCounts, extraSamples, sampleFormat, entryIn}
+use Rattle.tags.specs.Tags.{typeAt}
 use Rattle.entries.specs.Values.{countAt, sizeOf, placeOf, valueAt}
 use Rattle.geometry.specs.Geometry.{pieces, mostSide}
 use Rattle.header.specs.declared.Limits.{Limits}

@@ -4,7 +4,7 @@ use mathlib.Core.List.{List, _++_}
 use mathlib.Core.Bool.{Bool}
 use Rattle.checks.specs.Checks.{Check, verdict}
 use Rattle.seen.specs.Seen.{Seen}
-use Rattle.tiff.specs.Slots.{extraSamples, entryIn}
+use Rattle.tags.specs.Slots.{extraSamples, entryIn}
 use Rattle.header.specs.declared.Limits.{Limits}
 use Rattle.profile.specs.Profile.{step2, step3, step4, step5, step6, step7, step8, shapeIn, offsetsIn, countsIn, segmentsOf, profiled, formatWith}
 use Rattle.profile.specs.declared.Numbers.{Numbers}

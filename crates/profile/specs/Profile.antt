@@ -11,7 +11,7 @@ use Rattle.checks.specs.Checks.{Check, must, verdict}
 use Rattle.checks.specs.declared.Verdict.{Verdict}
 use Rattle.checks.specs.declared.Verdict.the-variants as verdict-is
 use Rattle.seen.specs.Seen.{Seen, there}
-use Rattle.tiff.specs.Slots.{imageWidth, imageLength, bitsPerSample, compression, photometric, fillOrder, stripOffsets, orientation, samplesPerPixel, rowsPerStrip, stripByteCounts, planarConfiguration, predictor, tileWidth, tileLength, tileOffsets, tileByteCounts, extraSamples, sampleFormat, defaults, entryIn, absent, present}
+use Rattle.tags.specs.Slots.{imageWidth, imageLength, bitsPerSample, compression, photometric, fillOrder, stripOffsets, orientation, samplesPerPixel, rowsPerStrip, stripByteCounts, planarConfiguration, predictor, tileWidth, tileLength, tileOffsets, tileByteCounts, extraSamples, sampleFormat, defaults, entryIn, absent, present}
 use Rattle.entries.specs.Values.{hasValues, sizeOf, scalarOf, placeOf, valueAt}
 use Rattle.geometry.specs.Geometry.{pieces, mostSide}
 use Rattle.header.specs.declared.Limits.{Limits}

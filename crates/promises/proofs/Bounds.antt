@@ -11,16 +11,16 @@ use Rattle.checks.specs.declared.Size.the-variants.{Fits}
 use Rattle.checks.proofs.Sizes.{fits-is}
 use Rattle.seen.specs.Seen.{Seen}
 use Rattle.header.specs.Header.{bigEndian, firstOf}
-use Rattle.tiff.specs.Directory.{entriesAt, nextAt, slotsAt}
+use Rattle.directory.specs.Directory.{entriesAt, nextAt, slotsAt}
 use Rattle.tiff.specs.Walk.{pageAt}
 use Rattle.header.specs.declared.Limits.{Limits}
 use Rattle.geometry.proofs.Cutting.{rows-tiled, rows-full, rows-le}
-use Rattle.tiff.specs.Slots.{tileOffsets, entryIn, absent}
+use Rattle.tags.specs.Slots.{tileOffsets, entryIn, absent}
 use Rattle.profile.specs.Profile.{numbersOf, shapeOf, formatWith, formatOf}
 use Rattle.front.specs.Front.{formatSeen}
 use Rattle.picture.specs.Inner.{Valid}
 use Rattle.picture.specs.declared.Format.{Format}
-use Rattle.tiff.specs.Container.{walkFee}
+use Rattle.tiff.specs.Accepted.{walkFee}
 use Rattle.profile.specs.Accepted.{ProfileFine}
 use Rattle.picture.specs.Picture.{rowsIn, scratchOf}
 use Rattle.plan.specs.Plan.{feeOf}

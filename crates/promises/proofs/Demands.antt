@@ -17,8 +17,8 @@ use Rattle.patchy.specs.Patchy.{readingNumber, readingLeft}
 use Rattle.patchy.specs.declared.Sizes.{Sizes}
 use Rattle.patchy.specs.declared.Reading.{Reading}
 use Rattle.patchy.specs.declared.Reading.the-variants as reading-is
-use Rattle.plain_image.specs.Image.{answerOf}
-use Rattle.plain_image.specs.declared.Answer.{Answer}
+use Rattle.plain_patchy.specs.Read.{answerOf}
+use Rattle.plain_patchy.specs.declared.Answer.{Answer}
 use Rattle.promises.specs.StrictCall.{StrictCall, wholeView, inspectAnswer, decodeAnswer}
 use Rattle.promises.specs.StrictCall as strict
 use Rattle.promises.specs.Patchy.{Call, Answered, RefusedWith}

@@ -15,7 +15,7 @@ use Rattle.checks.specs.declared.Verdict.the-variants as verdict-is
 use Rattle.checks.proofs.Exact.{fine}
 use Rattle.seen.specs.Seen.{Seen}
 use Rattle.header.specs.Header.{bigEndian, firstOf}
-use Rattle.tiff.specs.Directory.{entriesAt, slotsAt}
+use Rattle.directory.specs.Directory.{entriesAt, slotsAt}
 use Rattle.tiff.specs.Walk.{pageAt}
 use Rattle.picture.specs.declared.Format.{Format}
 use Rattle.picture.specs.Picture.{scratchOf}

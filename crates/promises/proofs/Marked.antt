@@ -5,12 +5,15 @@ use Rattle.lists.specs.Lists.{span, joined, perRow}
 use Rattle.lists.specs.Sums.{back}
 use Rattle.checks.specs.Checks.{verdict}
 use Rattle.geometry.specs.Geometry.{rowsOf, byteSegment, byteLocal}
-use Rattle.tiff.specs.Slots.{defaults}
+use Rattle.tags.specs.Slots.{defaults}
 use Rattle.profile.specs.Profile.{slotNumber, shapeOf}
 use Rattle.packets.specs.Packets.{lenOf, payloadOf, roomOf, packetChecks, piece, expand, rangeChecks}
 use Rattle.pixel.specs.Luv.{uv, pixel, pixelAt, rowPixels, pixels}
-use Rattle.float64.specs.Float64.{numberFrom, digits, word, value, sample, row64, samples}
-use Rattle.native_fp.specs.NativeFp.{summedRow, gatheredRow, summed, gathered}
+use Rattle.words64.specs.Words64.{numberFrom, digits, word}
+use Rattle.rows64.specs.Rows64.{value, sample, row64}
+use Rattle.float64.specs.Float64.{samples}
+use Rattle.fp_rows.specs.FpRows.{summedRow, gatheredRow}
+use Rattle.native_fp.specs.NativeFp.{summed, gathered}
 use Rattle.promises.specs.Marked.{Case, cases}
 
 pub marked : map (λ (c : Case). c .gives) cases ≡ map (λ (c : Case). c .says) cases

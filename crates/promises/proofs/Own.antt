@@ -9,16 +9,18 @@ use lib.Dec.{eqb}
 use lib.ListN.{getD}
 use borrow.Author.Tests.{eqb-false}
 use Rattle.lists.specs.Lists.{pick}
-use Rattle.tiff.specs.Inner.{SlotsThere}
+use Rattle.tags.specs.Inner.{SlotsThere}
 use Rattle.seen.specs.Seen.{Seen, seen, There, two, four}
 use Rattle.seen.proofs.Words.{there-part}
 use Rattle.seen.proofs.Own.{byte-own, two-own, four-own, span-own}
 use Rattle.header.specs.Header.{begins, bigEndian, firstOf, HeaderFine}
-use Rattle.tiff.specs.Slots.{known, defaults, entryIn, imageWidth, imageLength, compression, photometric, fillOrder, orientation, samplesPerPixel, rowsPerStrip, planarConfiguration, predictor, tileWidth, tileLength}
-use Rattle.tiff.specs.Directory.{typeAt, entryOf, slotsIn, entriesAt, slotsAt, nextAt}
+use Rattle.tags.specs.Slots.{known, defaults, entryIn, imageWidth, imageLength, compression, photometric, fillOrder, orientation, samplesPerPixel, rowsPerStrip, planarConfiguration, predictor, tileWidth, tileLength}
+use Rattle.tags.specs.Tags.{typeAt, entryOf, slotsIn}
+use Rattle.directory.specs.Directory.{entriesAt, slotsAt, nextAt}
 use Rattle.tiff.specs.Walk.{pageAt}
-use Rattle.tiff.specs.Container.{DirectoryFine, WalkFine}
-use Rattle.tiff.proofs.Container.{slots-there}
+use Rattle.directory.specs.Accepted.{DirectoryFine}
+use Rattle.tiff.specs.Accepted.{WalkFine}
+use Rattle.directory.proofs.Accepted.{slots-there}
 use Rattle.profile.specs.Profile.{slotNumber, numbersOf, shapeIn, formatWith, formatOf}
 use Rattle.profile.specs.declared.Numbers.{Numbers}
 use Rattle.front.specs.Front.{formatSeen}

@@ -16,7 +16,7 @@ use Rattle.checks.proofs.Refusals.{refused}
 use Rattle.seen.specs.Seen.{Seen, seen, whole}
 use Rattle.seen.proofs.Alike.{whole-came}
 use Rattle.header.specs.Header.{limitChecks, bigEndian, firstOf}
-use Rattle.tiff.specs.Directory.{entriesAt, slotsAt}
+use Rattle.directory.specs.Directory.{entriesAt, slotsAt}
 use Rattle.tiff.specs.Walk.{pageAt}
 use Rattle.header.specs.declared.Limits.{Limits}
 use Rattle.front.specs.Front.{frontChecks, formatSeen}

@@ -19,7 +19,7 @@ use Rattle.geometry.specs.Geometry.{rowsOf}
 use Rattle.header.specs.declared.Limits.{Limits}
 use Rattle.header.specs.Header.{bigEndian}
 use Rattle.front.specs.Front.{formatSeen}
-use Rattle.tiff.specs.Slots.{tileOffsets, entryIn, present}
+use Rattle.tags.specs.Slots.{tileOffsets, entryIn, present}
 use Rattle.profile.specs.Profile.{numbersOf, shapeOf, formatWith, formatOf}
 use Rattle.picture.specs.Inner.{Valid}
 use Rattle.picture.specs.declared.Format.{Format}

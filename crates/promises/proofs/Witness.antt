@@ -6,8 +6,9 @@ use Rattle.checks.specs.Checks.{run, verdict}
 use Rattle.seen.specs.Seen.{arrived, blockCame, cameIn, four, inside, two, whole, Seen, seen}
 use Rattle.geometry.specs.Geometry.{byteLocal, byteSegment, rowsOf}
 use Rattle.header.specs.Header.{begins, headerChecks, orderChecks}
-use Rattle.tiff.specs.Directory.{countChecks, directoryChecks, entryOf, fresh, indexIn, slotsIn, tagsFine}
-use Rattle.tiff.specs.Slots.{defaults, known}
+use Rattle.directory.specs.Directory.{countChecks, directoryChecks}
+use Rattle.tags.specs.Tags.{entryOf, fresh, indexIn, slotsIn, tagsFine}
+use Rattle.tags.specs.Slots.{defaults, known}
 use Rattle.tiff.specs.Walk.{pageAt, walkChecks}
 use Rattle.entries.specs.Values.{hasValues, inField, numeric, placeOf, sizeOf, wordAt}
 use Rattle.packets.specs.Packets.{expand, lenOf, packetChecks, payloadOf, piece, roomOf}

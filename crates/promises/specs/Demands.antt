@@ -14,8 +14,8 @@ use Rattle.handle.specs.declared.Handle.{Handle}
 use Rattle.handle.specs.declared.Inspected.the-variants as inspected-is
 use Rattle.patchy.specs.Patchy.{readingNumber}
 use Rattle.patchy.specs.declared.Sizes.{Sizes}
-use Rattle.plain_image.specs.Image.{PatchyRead}
-use Rattle.plain_image.specs.declared.Answer.{Answer}
+use Rattle.plain_patchy.specs.Read.{PatchyRead}
+use Rattle.plain_patchy.specs.declared.Answer.{Answer}
 use Rattle.chelmesut.specs.Face.{ReadPatchy}
 use Rattle.promises.specs.Strict.{Good, Given, Inspects, Decodes, ReadsPage, Shows}
 use Rattle.promises.specs.StrictCall.{StrictCall, wholeView, inspectAnswer, decodeAnswer, decodeOutput, decodeScratch}

@@ -7,8 +7,8 @@ use Rattle.lists.specs.Lists.{tabulate}
 use Rattle.checks.specs.Numbers.{verdictNumber}
 use Rattle.checks.specs.Checks.{verdict}
 use Rattle.seen.specs.Seen.{seen}
-use Rattle.tiff.specs.Slots.{rowsPerStrip}
-use Rattle.tiff.specs.Directory.{none}
+use Rattle.tags.specs.Slots.{rowsPerStrip}
+use Rattle.tags.specs.Tags.{none}
 use Rattle.geometry.specs.Geometry.{rowsOf, byteSegment, byteLocal}
 use Rattle.profile.specs.Profile.{slotNumber, shapeOf, acrossOf, segmentsOf}
 use Rattle.profile.specs.declared.Numbers.{Numbers}

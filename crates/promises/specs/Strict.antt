@@ -7,14 +7,14 @@ use lib.ListN.{length, getD}
 use Rattle.checks.specs.Sizes.{most64}
 use Rattle.seen.specs.Seen.{Seen, There}
 use Rattle.header.specs.Header.{bigEndian, firstOf, HeaderFine}
-use Rattle.tiff.specs.Directory.{slotsAt}
+use Rattle.directory.specs.Directory.{slotsAt}
 use Rattle.tiff.specs.Walk.{pageAt}
 use Rattle.geometry.specs.Geometry.{segmentOf}
 use Rattle.entries.specs.Values.{sizeOf, placeOf}
 use Rattle.header.specs.declared.Limits.{Limits}
 use Rattle.front.specs.Front.{formatSeen}
 use Rattle.picture.specs.declared.Format.{Format}
-use Rattle.tiff.specs.Container.{WalkFine}
+use Rattle.tiff.specs.Accepted.{WalkFine}
 use Rattle.profile.specs.Accepted.{ProfileFine}
 use Rattle.front.specs.Accepted.{frontFee}
 use Rattle.packets.specs.Packets.{Fills, expand}

@@ -4,11 +4,11 @@ use mathlib.Core.Path.{_≡_}
 use Rattle.seen.specs.Seen.{Seen}
 use Rattle.header.specs.declared.Limits.{Limits}
 use Rattle.header.specs.Header.{bigEndian, firstOf, HeaderFine}
-use Rattle.tiff.specs.Directory.{slotsAt}
+use Rattle.directory.specs.Directory.{slotsAt}
 use Rattle.tiff.specs.Walk.{pageAt}
 use Rattle.front.specs.Front.{formatSeen}
 use Rattle.picture.specs.Inner.{Valid}
-use Rattle.tiff.specs.Container.{WalkFine}
+use Rattle.tiff.specs.Accepted.{WalkFine}
 use Rattle.profile.specs.Accepted.{ProfileFine}
 use Rattle.picture.specs.Picture.{scratchOf}
 use Rattle.inspection.specs.Inspection.{workOf}

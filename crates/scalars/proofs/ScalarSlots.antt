@@ -15,8 +15,8 @@ use Rattle.checks.specs.Checks.{verdict}
 use Rattle.checks.specs.declared.Verdict.the-variants as verdict-is
 use Rattle.seen.specs.Seen.{Seen}
 use Rattle.entries.specs.Values.{hasValues, scalarOf}
-use Rattle.tiff.specs.Slots.{imageWidth, imageLength, compression, photometric, fillOrder, orientation, samplesPerPixel, rowsPerStrip, planarConfiguration, predictor, tileWidth, tileLength, defaults, entryIn}
-use Rattle.tiff.proofs.Container.{entry-is-there, slot-is-there}
+use Rattle.tags.specs.Slots.{imageWidth, imageLength, compression, photometric, fillOrder, orientation, samplesPerPixel, rowsPerStrip, planarConfiguration, predictor, tileWidth, tileLength, defaults, entryIn}
+use Rattle.tags.proofs.Entries.{entry-is-there, slot-is-there}
 use Rattle.profile.specs.declared.Numbers.{Numbers}
 use Rattle.profile.specs.Profile.{scalars, scalarFine, scalarChecks, step1, slotNumber, numbersOf}
 

@@ -7,8 +7,8 @@ ghost use Prim.Native.Nat.{_<_};
 ghost use lib.ListN.{getD};
 ghost use Rattle.checks.specs.Checks.{verdict};
 ghost use Rattle.seen.specs.Seen.{seen};
-ghost use Rattle.tiff.specs.Slots.{defaults};
-ghost use Rattle.tiff.specs.Inner.{SlotsThere};
+ghost use Rattle.tags.specs.Slots.{defaults};
+ghost use Rattle.tags.specs.Inner.{SlotsThere};
 ghost use Rattle.profile.specs.Profile.{scalars, scalarFine, step1, slotNumber, numbersOf};
 
 const SCALARS: [usize; 13] = [0, 1, 3, 4, 5, 7, 8, 9, 11, 12, 13, 14, 17];

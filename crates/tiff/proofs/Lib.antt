@@ -1,4 +1,2 @@
-pub mod Slots
-pub mod Entries
 pub mod Pages
-pub mod Container
+pub mod Accepted

@@ -1,5 +1,2 @@
-pub mod Slots
-pub mod Directory
 pub mod Walk
-pub mod Container
-pub mod Inner
+pub mod Accepted

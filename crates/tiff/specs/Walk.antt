@@ -6,8 +6,8 @@ use lib.Dec.{ltb}
 use Rattle.checks.specs.Numbers.{pageNotFound}
 use Rattle.checks.specs.Checks.{Check, must}
 use Rattle.seen.specs.Seen.{Seen}
-use Rattle.tiff.specs.Directory.{nextAt, directoryChecks, Gives}
-use Rattle.tiff.specs.declared.Directory.{Directory}
+use Rattle.directory.specs.Directory.{nextAt, directoryChecks, Gives}
+use Rattle.directory.specs.declared.Directory.{Directory}
 
 module _ (v : Seen) (big : Bool) where
   -- an offset of 0 is 5, then the directory's own checks, for each directory up to the page

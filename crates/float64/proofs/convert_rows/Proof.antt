@@ -1,7 +1,7 @@
 -- Row by row: each is turned by itself into the place of its number.
 use Prim.Native.Nat.{_-_}
 use Rattle.lists.proofs.Rows.{Rowing, rowing-none, rowing-in, rowing-out}
-use Rattle.float64.specs.Float64.{row64}
+use Rattle.rows64.specs.Rows64.{row64}
 use Rattle.float64.proofs.Picture.{row-fits, rows-more, rows-all}
 use native.Mathlib.Omega.{arith}
 use borrow.Author.Needs.{needs}

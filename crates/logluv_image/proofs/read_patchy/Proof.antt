@@ -1,4 +1,4 @@
--- `read_patchy` meets its contract: `plain_image::read` is called on the caller's own slices and the budget's units, and promises of its answer and
+-- `read_patchy` meets its contract: `plain_patchy::read` is called on the caller's own slices and the budget's units, and promises of its answer and
 -- the three buffers what is promised here; the units that it leaves are stored before the budget's borrow is closed.
 use mathlib.Core.Path.{_≡_, refl}
 use Prim.Native.Nat.{ℕ, _<_, _^_}
@@ -45,19 +45,19 @@ use denote.Exit.{yes}
 use Rattle.header.specs.declared.Limits.{Limits}
 use Rattle.header.proofs.Limits as L
 use Rattle.header.proofs.Limits.Laws as L′
-use Rattle.plain_image.specs.Image.{PatchyRead}
+use Rattle.plain_patchy.specs.Read.{PatchyRead}
 use Rattle.logluv_image.specs.declared.Budget.{Budget}
-use Rattle.plain_image.specs.declared.Taken.{Taken}
-use Rattle.plain_image.proofs.Answer as R
-use Rattle.plain_image.proofs.Answer.Laws as R′
+use Rattle.plain_patchy.specs.declared.Taken.{Taken}
+use Rattle.plain_patchy.proofs.Answer as R
+use Rattle.plain_patchy.proofs.Answer.Laws as R′
 use Rattle.logluv_image.proofs.Budget as T
 use Rattle.logluv_image.proofs.Budget.Laws as T′
-use Rattle.plain_image.proofs.Taken as S
-use Rattle.plain_image.proofs.Taken.Laws as S′
-use Rattle.plain_image.proofs.read as core
-use Rattle.plain_image.proofs.read.Symbol as core-def
-use Rattle.plain_image.proofs.read.Symbol.{name as #plain-image·read}
-use Rattle.plain_image.proofs.read.Met as core-thm
+use Rattle.plain_patchy.proofs.Taken as S
+use Rattle.plain_patchy.proofs.Taken.Laws as S′
+use Rattle.plain_patchy.proofs.read as core
+use Rattle.plain_patchy.proofs.read.Symbol as core-def
+use Rattle.plain_patchy.proofs.read.Symbol.{name as #plain-patchy·read}
+use Rattle.plain_patchy.proofs.read.Met as core-thm
 use Rattle.logluv_image.proofs.read_patchy.Key.{name as #logluv-image·read-patchy}
 use Rattle.logluv_image.proofs.read_patchy as f
 use Rattle.logluv_image.proofs.read_patchy.Statement as stated
@@ -158,7 +158,7 @@ module _ {M : Type 1} (𝓤 : URA M) (H : Heap 𝓤) (A : Atoms 𝓤) (W : Given
   abbrev wa : (r : Taken) (us : List Val) (is : Is S.the-row r us) → Holds (hasTy R′.mir (R′.lowered (r .answer))) × WT (R′.lowered (r .answer))
   wa r us is = LL.lawful R.the-type R′.the-laws 𝓤 H A W .typed (r .answer) _ (LL.owed S.the-type S′.the-laws r us is .0) .0
 
-  module _ (C : Calls 𝓤 H) (Λ : Loops 𝓤 H) (fm : FmC 𝓤 H (W .laws) C) (known : Triple 𝓤 (C #plain-image·read) (Core 𝓤 H A at-mem run)) where
+  module _ (C : Calls 𝓤 H) (Λ : Loops 𝓤 H) (fm : FmC 𝓤 H (W .laws) C) (known : Triple 𝓤 (C #plain-patchy·read) (Core 𝓤 H A at-mem run)) where
     walk : Is (ShrSlice (named 0) κ₀ u8) file (slice file ∷ []) → Is (ShrSlice (named 1) κ₁ u8) map (slice map ∷ []) → page < 2 ^ 64 → Is L.the-row limits (L′.lowered limits ∷ []) → Is (MutSlice (named 2) κ₂ u8) output (slice output ∷ []) → Is (MutSlice (named 3) κ₃ u8) scratch (slice scratch ∷ []) → Is (MutSlice (named 4) κ₄ u8) quality (slice quality ∷ [])
         → ent 𝓤 (onEntry 𝓤 H A f.signature κs qs x at) (WpFn 𝓤 H C Λ code.function vs Post)
     walk pf pm gp pl po ps pq =
@@ -211,7 +211,7 @@ module _ {M : Type 1} (𝓤 : URA M) (H : Heap 𝓤) (A : Atoms 𝓤) (W : Given
         keep ! (0 ∷ 1 ∷ 2 ∷ 3 ∷ 4 ∷ 6 ∷ 7 ∷ 8 ∷ 9 ∷ []) $ by ! (exits r (zs .1 .1 .1 .1 .0) (zs .1 .1 .1 .1 .1 .0) (zs .1 .1 .1 .1 .1 .1 .0) e so st sq gp pl (LL.owed S.the-type S′.the-laws r _ is .0)))))))))))))))))))))))))))))
 
 module _ {M : Type 1} (𝓤 : URA M) (H : Heap 𝓤) (A : Atoms 𝓤) (W : Given 𝓤 H A) (at-mem : Memory → SProp 𝓤) (run : Routine → Fun 𝓤) where
-  read-patchy-walks : (C : Calls 𝓤 H) (Λ : Loops 𝓤 H) → FmC 𝓤 H (W .laws) C → Triple 𝓤 (C #plain-image·read) (Core 𝓤 H A at-mem run)
+  read-patchy-walks : (C : Calls 𝓤 H) (Λ : Loops 𝓤 H) → FmC 𝓤 H (W .laws) C → Triple 𝓤 (C #plain-patchy·read) (Core 𝓤 H A at-mem run)
       → Walks 𝓤 H A f.ended stayed (WpFn 𝓤 H C Λ code.function) (f.clauses 𝓤 H A at-mem run)
   read-patchy-walks C Λ fm known = walked 𝓤 H A f.ended stayed (f.clauses 𝓤 H A at-mem run) (WpFn 𝓤 H C Λ code.function) (λ κs. (slice-vals, (slice-vals, (uint-vals w64, (LL.vals L.the-type L′.the-laws, (slice-vals, (slice-vals, (slice-vals, (ptr-vals, tt)))))))))
       (λ κs. (shr-slice-tells (named 0) (κs .0) u8, (shr-slice-tells (named 1) (κs .1 .0) u8, (uint-tells w64, (LL.tells L.the-type L′.the-laws, (mut-slice-tells (named 2) (κs .1 .1 .0) u8, (mut-slice-tells (named 3) (κs .1 .1 .1 .0) u8, (mut-slice-tells (named 4) (κs .1 .1 .1 .1 .0) u8, (mut-tells (named 5) (κs .1 .1 .1 .1 .1 .0) T.the-row, tt)))))))))
@@ -223,7 +223,7 @@ module _ {M : Type 1} (𝓤 : URA M) (H : Heap 𝓤) (A : Atoms 𝓤) (W : Given
   goes = (goes-none-slice 𝓤 H A W 6 (0 ∷ []) tt (plain (λ _. u8)) yes, (goes-none-slice 𝓤 H A W 6 (1 ∷ []) tt (plain (λ _. u8)) yes, (goes-none 𝓤 H A W 6 (λ _. usize) yes (λ κs x f. refl), (goes-none 𝓤 H A W 6 (λ _. L.the-row) yes (λ κs x f. refl), (goes-gave-slice 𝓤 H A W 6 2 tt (plain (λ _. u8)), (goes-gave-slice 𝓤 H A W 6 3 tt (plain (λ _. u8)), (goes-gave-slice 𝓤 H A W 6 4 tt (plain (λ _. u8)), (goes-ref 𝓤 H A W 6 5 tt (plain (λ _. T.the-row)), tt))))))))
 
 read-patchy-meets : {M : Type 1} (𝓤 : URA M) (H : Heap 𝓤) (A : Atoms 𝓤) (W : Given 𝓤 H A) (at-mem : Memory → SProp 𝓤) (run : Routine → Fun 𝓤) (𝓣 : Tables 𝓤 H)
-    → Triple 𝓤 (𝓣 .C #plain-image·read) (Core 𝓤 H A at-mem run)
+    → Triple 𝓤 (𝓣 .C #plain-patchy·read) (Core 𝓤 H A at-mem run)
     → Meets 𝓤 H A f.signature (WpFn 𝓤 H (𝓣 .C) (𝓣 .Λ) code.function) (f.spec 𝓤 H A at-mem run)
 read-patchy-meets 𝓤 H A W at-mem run 𝓣 known = walk-meets 𝓤 H A f.ended stayed W (goes 𝓤 H A W at-mem run) (f.clauses 𝓤 H A at-mem run) (WpFn 𝓤 H (𝓣 .C) (𝓣 .Λ) code.function) (WpFn-mono 𝓤 H (W .laws) 𝓣 code.function) (read-patchy-walks 𝓤 H A W at-mem run (𝓣 .C) (𝓣 .Λ) (fmOf 𝓤 H (W .laws) 𝓣) known)
 
@@ -233,4 +233,4 @@ read-patchy-spec 𝓤 H 𝓜 𝓖 𝓡 =
     entered 𝓤 H (tripleOf 𝓤 H (𝓖 .A) f.signature (f.spec 𝓤 H (𝓖 .A) (𝓜 .mem) (𝓡 .run)))
     (tables 𝓤 H 𝓜 𝓡 code.env .C) (tables 𝓤 H 𝓜 𝓡 code.env .Λ) #logluv-image·read-patchy code.function (code.unfolded 𝓤 H 𝓜 𝓡)
     (read-patchy-meets 𝓤 H (𝓖 .A) (givenOf 𝓤 H 𝓜 𝓖) (𝓜 .mem) (𝓡 .run) (tablesOf 𝓤 H 𝓜 (tables 𝓤 H 𝓜 𝓡 code.env))
-    (cited 𝓤 H (Core 𝓤 H (𝓖 .A) (𝓜 .mem) (𝓡 .run)) 𝓜 𝓡 code.env #plain-image·read core-def.routine code.calls-plain-image·read (core-thm.met 𝓤 H 𝓜 𝓖 𝓡)))
+    (cited 𝓤 H (Core 𝓤 H (𝓖 .A) (𝓜 .mem) (𝓡 .run)) 𝓜 𝓡 code.env #plain-patchy·read core-def.routine code.calls-plain-patchy·read (core-thm.met 𝓤 H 𝓜 𝓖 𝓡)))

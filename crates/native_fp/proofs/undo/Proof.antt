@@ -1,7 +1,7 @@
 -- The first pass leaves the summed rows at the front of scratch, and just that front is lent to the second.
 use native.Mathlib.Omega.{arith}
 use borrow.Author.Needs.{needs}
-use Rattle.native_fp.proofs.RowByRow.{passes, front-long, front-rows}
+use Rattle.native_fp.proofs.Passes.{passes, front-long, front-rows}
 use Rattle.native_fp.proofs.undo.Statement.{statement}
 use Rattle.native_fp.proofs.undo.Tie as tie
 

@@ -1,6 +1,6 @@
 -- The table is the list of defaults.
 use Rattle.scalars.proofs.ScalarSlots.{default-small}
-use Rattle.tiff.specs.Slots.{defaults}
+use Rattle.tags.specs.Slots.{defaults}
 use mathlib.Core.Path.{refl}
 use native.Mathlib.Omega.{arith}
 use borrow.Author.Needs.{needs}

@@ -1,0 +1,3 @@
+pub mod Directory
+pub mod Accepted
+pub mod Inner

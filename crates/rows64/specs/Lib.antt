@@ -1,0 +1,2 @@
+pub mod Rows64
+pub mod Inner
