@@ -5,6 +5,8 @@ use checks::TRUNCATED;
 use checks::UNSUPPORTED;
 use checks::Verdict;
 use entries::Value;
+use tags::BITS_PER_SAMPLE;
+use tags::SAMPLE_FORMAT;
 ghost use mathlib.Core.Path.{_≡_};
 ghost use Rattle.checks.specs.Checks.{verdict};
 ghost use Rattle.seen.specs.Seen.{seen, There};
@@ -64,9 +66,9 @@ pub fn check_depths(file: &[u8], map: &[u8], big: bool, slots: [usize; 19]) -> V
     requires { ⌜ SlotsThere (seen (now file) (now map)) slots ⌝ }
     ensures { λ r. ⌜ r ≡ verdict (step4 (seen (now (file .entry)) (now (map .entry))) big slots) ⌝ }
 {
-    match check_three(file, map, big, slots[2], 16) {
+    match check_three(file, map, big, slots[BITS_PER_SAMPLE], 16) {
         Verdict::Refused(e) => Verdict::Refused(e),
-        Verdict::Fine => check_three(file, map, big, slots[18], 2),
+        Verdict::Fine => check_three(file, map, big, slots[SAMPLE_FORMAT], 2),
     }
 }
 

@@ -6,6 +6,11 @@ use checks::UNSUPPORTED;
 use checks::Verdict;
 use profile::Numbers;
 use profile::Shape;
+use tags::STRIP_BYTE_COUNTS;
+use tags::STRIP_OFFSETS;
+use tags::TILE_BYTE_COUNTS;
+use tags::TILE_LENGTH;
+use tags::TILE_WIDTH;
 ghost use mathlib.Core.Path.{_≡_};
 ghost use Prim.Native.Nat.{_<_};
 ghost use Rattle.checks.specs.Checks.{verdict};
@@ -144,10 +149,10 @@ fn check_tags(s: Shape, slots: [usize; 19]) -> Verdict
     let block_width = s.block_width;
     let block_height = s.block_height;
     if s.tiled {
-        if slots[6] != 0 {
+        if slots[STRIP_OFFSETS] != 0 {
             return Verdict::Refused(INVALID);
         }
-        if slots[10] != 0 {
+        if slots[STRIP_BYTE_COUNTS] != 0 {
             return Verdict::Refused(INVALID);
         }
         if block_width % 16 != 0 {
@@ -158,13 +163,13 @@ fn check_tags(s: Shape, slots: [usize; 19]) -> Verdict
         }
         return Verdict::Fine;
     }
-    if slots[13] != 0 {
+    if slots[TILE_WIDTH] != 0 {
         return Verdict::Refused(INVALID);
     }
-    if slots[14] != 0 {
+    if slots[TILE_LENGTH] != 0 {
         return Verdict::Refused(INVALID);
     }
-    if slots[16] != 0 {
+    if slots[TILE_BYTE_COUNTS] != 0 {
         return Verdict::Refused(INVALID);
     }
     Verdict::Fine

@@ -6,6 +6,11 @@ use picture::Format;
 use profile::Numbers;
 use profile::Profile;
 use profile::Shape;
+use tags::EXTRA_SAMPLES;
+use tags::STRIP_BYTE_COUNTS;
+use tags::STRIP_OFFSETS;
+use tags::TILE_BYTE_COUNTS;
+use tags::TILE_OFFSETS;
 ghost use mathlib.Core.Path.{_≡_};
 ghost use Rattle.seen.specs.Seen.{seen};
 ghost use Rattle.tags.specs.Inner.{SlotsThere};
@@ -32,14 +37,14 @@ fn read_segments(
         Counted::Sizes(across, segments, output) => {
             let tiled = s.tiled;
             let offsets = if tiled {
-                slots[15]
+                slots[TILE_OFFSETS]
             } else {
-                slots[6]
+                slots[STRIP_OFFSETS]
             };
             let counts = if tiled {
-                slots[16]
+                slots[TILE_BYTE_COUNTS]
             } else {
-                slots[10]
+                slots[STRIP_BYTE_COUNTS]
             };
             match arrays::check_lists(file, map, big, offsets, counts, segments) {
                 Verdict::Refused(e) => Profile::Refused(e),
@@ -75,7 +80,7 @@ fn read_blocks(
     requires { ⌜ SlotsThere (seen (now file) (now map)) slots × Sided n ⌝ }
     ensures { λ r. ⌜ r ≡ foundFrom5 (seen (now (file .entry)) (now (map .entry))) big entries slots n limits ⌝ }
 {
-    let s = layout::shape_of(n, slots[15] != 0);
+    let s = layout::shape_of(n, slots[TILE_OFFSETS] != 0);
     match layout::check_layout(s, slots) {
         Verdict::Refused(e) => Profile::Refused(e),
         Verdict::Fine => read_segments(file, map, big, entries, slots, s, limits),
@@ -96,7 +101,7 @@ fn read_samples(
     ensures { λ r. ⌜ r ≡ foundFrom2 (seen (now (file .entry)) (now (map .entry))) big entries slots n limits ⌝ }
 {
     let max_dimension = limits.max_dimension;
-    match layout::check_numbers(n, slots[17], max_dimension) {
+    match layout::check_numbers(n, slots[EXTRA_SAMPLES], max_dimension) {
         Verdict::Refused(e) => Profile::Refused(e),
         Verdict::Fine => match arrays::check_depths(file, map, big, slots) {
             Verdict::Refused(e) => Profile::Refused(e),

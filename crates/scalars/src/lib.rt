@@ -2,6 +2,19 @@
 use checks::INVALID;
 use checks::Verdict;
 use profile::Numbers;
+use tags::COMPRESSION;
+use tags::EXTRA_SAMPLES;
+use tags::FILL_ORDER;
+use tags::IMAGE_LENGTH;
+use tags::IMAGE_WIDTH;
+use tags::ORIENTATION;
+use tags::PHOTOMETRIC;
+use tags::PLANAR_CONFIGURATION;
+use tags::PREDICTOR;
+use tags::ROWS_PER_STRIP;
+use tags::SAMPLES_PER_PIXEL;
+use tags::TILE_LENGTH;
+use tags::TILE_WIDTH;
 ghost use mathlib.Core.Path.{_≡_};
 ghost use Prim.Native.Nat.{_<_};
 ghost use lib.ListN.{getD};
@@ -11,7 +24,21 @@ ghost use Rattle.tags.specs.Slots.{defaults};
 ghost use Rattle.tags.specs.Inner.{SlotsThere};
 ghost use Rattle.profile.specs.Profile.{scalars, scalarFine, step1, slotNumber, numbersOf};
 
-const SCALARS: [usize; 13] = [0, 1, 3, 4, 5, 7, 8, 9, 11, 12, 13, 14, 17];
+const SCALARS: [usize; 13] = [
+    IMAGE_WIDTH,
+    IMAGE_LENGTH,
+    COMPRESSION,
+    PHOTOMETRIC,
+    FILL_ORDER,
+    ORIENTATION,
+    SAMPLES_PER_PIXEL,
+    ROWS_PER_STRIP,
+    PLANAR_CONFIGURATION,
+    PREDICTOR,
+    TILE_WIDTH,
+    TILE_LENGTH,
+    EXTRA_SAMPLES,
+];
 
 const DEFAULTS: [usize; 19] = [
     0,
@@ -93,18 +120,18 @@ pub fn read_numbers(file: &[u8], map: &[u8], big: bool, slots: [usize; 19]) -> N
     requires { ⌜ SlotsThere (seen (now file) (now map)) slots ⌝ }
     ensures { λ r. ⌜ r ≡ numbersOf (seen (now (file .entry)) (now (map .entry))) big slots ⌝ }
 {
-    let width = number_of(file, map, big, slots, 0);
-    let height = number_of(file, map, big, slots, 1);
-    let compression = number_of(file, map, big, slots, 3);
-    let photometric = number_of(file, map, big, slots, 4);
-    let fill_order = number_of(file, map, big, slots, 5);
-    let orientation = number_of(file, map, big, slots, 7);
-    let samples = number_of(file, map, big, slots, 8);
-    let strip_rows = number_of(file, map, big, slots, 9);
-    let planar = number_of(file, map, big, slots, 11);
-    let predictor = number_of(file, map, big, slots, 12);
-    let tile_width = number_of(file, map, big, slots, 13);
-    let tile_height = number_of(file, map, big, slots, 14);
+    let width = number_of(file, map, big, slots, IMAGE_WIDTH);
+    let height = number_of(file, map, big, slots, IMAGE_LENGTH);
+    let compression = number_of(file, map, big, slots, COMPRESSION);
+    let photometric = number_of(file, map, big, slots, PHOTOMETRIC);
+    let fill_order = number_of(file, map, big, slots, FILL_ORDER);
+    let orientation = number_of(file, map, big, slots, ORIENTATION);
+    let samples = number_of(file, map, big, slots, SAMPLES_PER_PIXEL);
+    let strip_rows = number_of(file, map, big, slots, ROWS_PER_STRIP);
+    let planar = number_of(file, map, big, slots, PLANAR_CONFIGURATION);
+    let predictor = number_of(file, map, big, slots, PREDICTOR);
+    let tile_width = number_of(file, map, big, slots, TILE_WIDTH);
+    let tile_height = number_of(file, map, big, slots, TILE_LENGTH);
     Numbers {
         width: width,
         height: height,

@@ -5,6 +5,46 @@ ghost use Rattle.seen.specs.Seen.{seen, There};
 ghost use Rattle.tags.specs.Tags.{slotOf};
 ghost use Rattle.tags.specs.Inner.{EntryIs, TagsAre};
 
+// The slots by their TIFF names.
+pub const IMAGE_WIDTH: usize = 0;
+
+pub const IMAGE_LENGTH: usize = 1;
+
+pub const BITS_PER_SAMPLE: usize = 2;
+
+pub const COMPRESSION: usize = 3;
+
+pub const PHOTOMETRIC: usize = 4;
+
+pub const FILL_ORDER: usize = 5;
+
+pub const STRIP_OFFSETS: usize = 6;
+
+pub const ORIENTATION: usize = 7;
+
+pub const SAMPLES_PER_PIXEL: usize = 8;
+
+pub const ROWS_PER_STRIP: usize = 9;
+
+pub const STRIP_BYTE_COUNTS: usize = 10;
+
+pub const PLANAR_CONFIGURATION: usize = 11;
+
+pub const PREDICTOR: usize = 12;
+
+pub const TILE_WIDTH: usize = 13;
+
+pub const TILE_LENGTH: usize = 14;
+
+pub const TILE_OFFSETS: usize = 15;
+
+pub const TILE_BYTE_COUNTS: usize = 16;
+
+pub const EXTRA_SAMPLES: usize = 17;
+
+pub const SAMPLE_FORMAT: usize = 18;
+
+// The tag of each slot.
 const TAGS: [usize; 19] = [
     256,
     257,
