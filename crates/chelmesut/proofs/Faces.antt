@@ -27,6 +27,7 @@ use Rattle.patchy.specs.declared.Sizes.{Sizes}
 use Rattle.patchy.specs.declared.Reading.{Reading}
 use Rattle.patchy.specs.declared.Reading.the-variants as reading-is
 use Rattle.face_words.specs.Words.{wordsOf, sameWords}
+use Rattle.face_leaves.specs.Leaves.{WorkLimit}
 use Rattle.chelmesut.specs.Face.{wordsAfter, givesWords, wordsChecks, wordsDecodeTold, faceReading, Inspect, Decode, ReadPatchy}
 
 module _
@@ -175,3 +176,9 @@ module _ (file : List ℕ) (page : ℕ) (l : Limits) (map : List ℕ) (units : �
       read-too s u q = as-read 0 u _ (ap patchy.readingNumber (sym q)) (ap patchy.readingLeft (sym q)) (ap told-sizes (sym q))
 
 pub ruleset patching = (not-read, read-too, needs)
+
+-- the bound, of the limits that the six numbers stand for
+pub bounded : (page : ℕ) (l : Limits) (old n new : ℕ) {m : Limits} → m ≡ l → WorkLimit page m old n new → WorkLimit page l old n new
+bounded page l old n new e w = rw e at w
+
+pub ruleset bounding = (bounded, needs)

@@ -165,16 +165,15 @@ pub extern "C" fn chelmesut_work_limit(
         (limitsOf «max_input» «max_output» «max_dimension» «max_directories» «max_tags» «max_segments»)
         (now (limit .entry)) r (now (limit .exit)) ⌝ }
 {
-    face_leaves::bound(
-        page,
+    let limits = face_words::limits_of(
         max_input,
         max_output,
         max_dimension,
         max_directories,
         max_tags,
         max_segments,
-        limit,
-    )
+    );
+    face_leaves::bound(page, limits, limit)
 }
 
 // The 64-bit integer predictor.

@@ -16,15 +16,12 @@ use Rattle.float64.specs.Float64.{samples}
 use Rattle.native_fp.specs.NativeFp.{summed, gathered}
 use Rattle.face_leaves.specs.Leaves.{verdict64, verdict3, WorkLimit, Predictor64, Predictor3}
 
-module _ (page : ℕ) (l : Limits) (old : ℕ) {m : Limits} (em : m ≡ l) {r : Size} (found : r ≡ within (workBound page m)) where
-  bound-is : {s : Size} → r ≡ s → s ≡ within (workBound page l)
-  bound-is q = sym q ∙ rw em at found
-
+module _ (page : ℕ) (l : Limits) (old : ℕ) {r : Size} (found : r ≡ within (workBound page l)) where
   pub over : (n : ℕ) → r ≡ size-is.Over → n ≡ limit → WorkLimit page l old n old
-  over n q en = record { number-is = en ∙ ap sizeNumber (bound-is q); limit-is = ap (λ (s : Size). sizeOr s old) (bound-is q) }
+  over n q en = record { number-is = en ∙ ap sizeNumber (sym q ∙ found); limit-is = ap (λ (s : Size). sizeOr s old) (sym q ∙ found) }
 
   pub fits : (n : ℕ) → r ≡ size-is.Fits n → WorkLimit page l old 0 n
-  fits n q = record { number-is = ap sizeNumber (bound-is q); limit-is = ap (λ (s : Size). sizeOr s old) (bound-is q) }
+  fits n q = record { number-is = ap sizeNumber (sym q ∙ found); limit-is = ap (λ (s : Size). sizeOr s old) (sym q ∙ found) }
 
 pub ruleset bounding = (over, fits, needs)
 

@@ -1,32 +1,13 @@
 // The calls of the C face that read no file, with numbers for their answers: the bound on inspection's charge and both predictors.
 use checks::LIMIT;
 use checks::Size;
-ghost use Rattle.face_words.specs.Words.{limitsOf};
+use header::Limits;
 ghost use Rattle.face_leaves.specs.Leaves.{WorkLimit, Predictor64, Predictor3};
 
 // Upstream's bound on what inspection charges: above 2^64-1 it is 4.
-pub fn bound(
-    page: usize,
-    max_input: usize,
-    max_output: usize,
-    max_dimension: usize,
-    max_directories: usize,
-    max_tags: usize,
-    max_segments: usize,
-    limit: &mut usize,
-) -> usize
-    ensures { λ r. ⌜ WorkLimit page
-        (limitsOf «max_input» «max_output» «max_dimension» «max_directories» «max_tags» «max_segments»)
-        (now (limit .entry)) r (now (limit .exit)) ⌝ }
+pub fn bound(page: usize, limits: Limits, limit: &mut usize) -> usize
+    ensures { λ r. ⌜ WorkLimit page limits (now (limit .entry)) r (now (limit .exit)) ⌝ }
 {
-    let limits = face_words::limits_of(
-        max_input,
-        max_output,
-        max_dimension,
-        max_directories,
-        max_tags,
-        max_segments,
-    );
     match work_limit::logluv_inspection_work_limit(page, limits) {
         Size::Over => face_words::wide(LIMIT),
         Size::Fits(n) => {

@@ -3,9 +3,6 @@ use Rattle.face_leaves.proofs.Answered.{bounding}
 use Rattle.face_leaves.proofs.bound.Statement.{statement}
 use Rattle.face_leaves.proofs.bound.Tie as tie
 
-limits-of-requires : tie.Need-limits-of-requires
-limits-of-requires c κs = search bounding
-
 logluv-inspection-work-limit-requires : tie.Need-logluv-inspection-work-limit-requires
 logluv-inspection-work-limit-requires c κs = search bounding
 
@@ -28,7 +25,6 @@ pub bound-spec : {M : Type 1} → statement M
 bound-spec =
     tie.close
     (tie.spec
-    limits-of-requires
     logluv-inspection-work-limit-requires
     enum-told
     wide-requires
