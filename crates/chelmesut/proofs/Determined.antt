@@ -1,4 +1,4 @@
--- Each contract of the C face allows one result: two that meet it for the same lent things are equal.
+-- Each contract of the calls that read a file allows one result: two that meet it for the same lent things are equal.
 use Prim.Native.Nat.{ℕ}
 use mathlib.Core.Path.{_≡_, sym, _∙_}
 use mathlib.Core.List.{List}

@@ -1,4 +1,4 @@
--- The C face: what each call answers, and what it leaves in what it was lent.
+-- The calls of the C face that read a file: what each answers, and what it leaves in what it was lent.
 use Prim.Native.Nat.{ℕ}
 use mathlib.Core.Path.{_≡_}
 use mathlib.Core.Bool.{Bool, false}

@@ -1,4 +1,4 @@
-// The entries of a directory by slot: each known tag at most once and with a type.
+// The slots by name, and the entries of a directory by slot: each known tag at most once and with a type.
 ghost use mathlib.Core.Path.{_≡_};
 ghost use Prim.Native.Nat.{_+_, _*_, _≤_};
 ghost use Rattle.seen.specs.Seen.{seen, There};
