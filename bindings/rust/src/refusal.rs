@@ -1,40 +1,65 @@
-//! The refusals of document 01 and their numbers.
+//! The refusals and their numbers.
 
 use std::error::Error;
 use std::fmt;
 
-/// Why a call refused. The numbers are document 01's.
+/// Why a call refused: the numbers of rule 1.1 of docs/SPECIFICATION.md.
+///
+/// The checks of a call have a fixed order, and the first that fails gives the number. After a
+/// refusal the lent buffers are as they were, but that a refused
+/// [`read_patchy`](crate::read_patchy) sets the whole quality buffer to 0; what was charged before
+/// it stays taken. Later versions may name more numbers, so a `match` needs an arm for the rest.
 #[derive(Clone, Copy, Debug, PartialEq, Eq, Hash)]
+#[non_exhaustive]
 pub enum Refusal {
-    /// Bytes outside the file, or too few packets.
-    Truncated = 1,
-    /// Malformed entries, bad packets or a forged handle.
-    Invalid = 2,
-    /// Outside the profile.
-    Unsupported = 3,
-    /// Above a limit, or a sum or product above 2^64-1.
-    Limit = 4,
-    /// The chain of directories ends before the page.
-    PageNotFound = 5,
-    /// A lent buffer is too short.
-    OutputTooSmall = 6,
-    /// The units that remain are below the charge.
-    Budget = 7,
-    /// A byte that is needed before the segments is in a block that did not arrive.
-    NotArrived = 8,
-    /// The delivery map has the wrong length.
-    MapSize = 9,
+    /// 1: bytes that lie outside the file, or packets that end too early.
+    Truncated,
+    /// 2: malformed entries, bad packets, or a handle that no inspection gives.
+    Invalid,
+    /// 3: a picture outside the profile, that is, of a kind that is not read.
+    Unsupported,
+    /// 4: more than a limit allows, or a sum or product above 2^64-1.
+    Limit,
+    /// 5: the chain of directories ends before the page.
+    PageNotFound,
+    /// 6: a lent buffer is too short, be it output, scratch or quality.
+    OutputTooSmall,
+    /// 7: fewer units are left than a charge asks for.
+    Budget,
+    /// 8: a byte that is needed before the segments is in a block that did not come.
+    NotArrived,
+    /// 9: the delivery map has the wrong length.
+    MapSize,
+    /// A number that this version of the crate has no name for. The archive is then another
+    /// version's, and nothing that the call did can be relied on: neither what it left in buffers
+    /// and budget, nor what it means.
+    ///
+    /// No call, nor [`Refusal::from_number`], gives one for 0 or for a number that has a name.
+    Unknown(u64),
 }
 
 impl Refusal {
-    /// Document 01's number, 1 to 9.
+    /// The number at the C face.
     pub const fn number(self) -> u64 {
-        self as u64
+        match self {
+            Refusal::Truncated => 1,
+            Refusal::Invalid => 2,
+            Refusal::Unsupported => 3,
+            Refusal::Limit => 4,
+            Refusal::PageNotFound => 5,
+            Refusal::OutputTooSmall => 6,
+            Refusal::Budget => 7,
+            Refusal::NotArrived => 8,
+            Refusal::MapSize => 9,
+            Refusal::Unknown(number) => number,
+        }
     }
 
-    /// The refusal that has this number; none for 0, which is an answer, and for numbers above 9.
+    /// The refusal that has this number: none for 0, which is an answer, and
+    /// [`Unknown`](Refusal::Unknown) for one that has no name here.
     pub const fn from_number(number: u64) -> Option<Refusal> {
         Some(match number {
+            0 => return None,
             1 => Refusal::Truncated,
             2 => Refusal::Invalid,
             3 => Refusal::Unsupported,
@@ -44,34 +69,31 @@ impl Refusal {
             7 => Refusal::Budget,
             8 => Refusal::NotArrived,
             9 => Refusal::MapSize,
-            _ => return None,
+            other => Refusal::Unknown(other),
         })
     }
 
-    /// What a call of the C face told by its number. The proved library gives 0 to 9 and nothing
-    /// else, so another number means that the archive is not the one that this crate was written
-    /// for. Nothing it did can be relied on then, and no caller could handle that.
+    /// What a call of the C face told by its number.
     pub(crate) fn told(number: u64) -> Result<(), Refusal> {
-        match Refusal::from_number(number) {
-            Some(refusal) => Err(refusal),
-            None if number == 0 => Ok(()),
-            None => panic!("libchelmesut.a does not fit this crate: {number} is no refusal"),
-        }
+        Refusal::from_number(number).map_or(Ok(()), Err)
     }
 
     const fn meaning(self) -> &'static str {
         match self {
-            Refusal::Truncated => "bytes outside the file, or too few packets",
-            Refusal::Invalid => "malformed entries, bad packets or a forged handle",
-            Refusal::Unsupported => "outside the profile",
-            Refusal::Limit => "above a limit, or a sum or product above 2^64-1",
+            Refusal::Truncated => "bytes outside the file, or packets that end too early",
+            Refusal::Invalid => {
+                "malformed entries, bad packets, or a handle that no inspection gives"
+            }
+            Refusal::Unsupported => "a picture of another kind",
+            Refusal::Limit => "more than a limit allows, or a sum or product above 2^64-1",
             Refusal::PageNotFound => "no such page",
             Refusal::OutputTooSmall => "a lent buffer is too short",
-            Refusal::Budget => "the remaining units are below the charge",
+            Refusal::Budget => "fewer units are left than the charge",
             Refusal::NotArrived => {
-                "a byte needed before the segments is in a block that did not arrive"
+                "a byte that is needed before the segments is in a block that did not come"
             }
             Refusal::MapSize => "the delivery map has the wrong length",
+            Refusal::Unknown(_) => "the archive is not the one that this crate was written for",
         }
     }
 }
@@ -95,21 +117,32 @@ mod tests {
     use super::*;
 
     #[test]
-    fn the_numbers_are_one_to_nine() {
+    fn one_to_nine_have_names_and_no_two_the_same() {
+        let mut names = Vec::new();
         for number in 1..=9 {
             let refusal = Refusal::from_number(number).unwrap();
             assert_eq!(refusal.number(), number);
             assert_eq!(Refusal::told(number), Err(refusal));
+            assert!(!matches!(refusal, Refusal::Unknown(_)));
+            assert!(!names.contains(&refusal));
+            names.push(refusal);
         }
+    }
+
+    #[test]
+    fn zero_is_an_answer() {
         assert_eq!(Refusal::from_number(0), None);
-        assert_eq!(Refusal::from_number(10), None);
         assert_eq!(Refusal::told(0), Ok(()));
     }
 
     #[test]
-    #[should_panic(expected = "libchelmesut.a does not fit this crate: 10 is no refusal")]
-    fn a_number_that_nobody_gives_is_loud() {
-        let _ = Refusal::told(10);
+    fn a_number_without_a_name_is_carried() {
+        for number in [10, 11, 12, 1 << 32, u64::MAX] {
+            let unknown = Refusal::Unknown(number);
+            assert_eq!(Refusal::from_number(number), Some(unknown));
+            assert_eq!(Refusal::told(number), Err(unknown));
+            assert_eq!(unknown.number(), number);
+        }
     }
 
     #[test]
@@ -117,6 +150,10 @@ mod tests {
         assert_eq!(
             Refusal::MapSize.to_string(),
             "refusal 9, MapSize: the delivery map has the wrong length"
+        );
+        assert_eq!(
+            Refusal::Unknown(10).to_string(),
+            "refusal 10, Unknown(10): the archive is not the one that this crate was written for"
         );
     }
 }
