@@ -104,7 +104,7 @@ pub fn inspect(
     let mut words = [0; face::HANDLE_WORDS];
     let number = face::inspect(file, page, limits, &mut budget.remaining, &mut words);
     Refusal::told(number)?;
-    Ok(Handle::from_words(words))
+    Ok(Handle::inspected(words))
 }
 
 /// Strict decode of the picture that [`inspect`] gave the handle for, into the first

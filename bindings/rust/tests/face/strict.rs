@@ -5,6 +5,16 @@ use chelmesut::{decode, inspect, AlphaMode, Budget, ByteOrder, Handle, Limits, R
 
 const FEE: u64 = 49;
 
+/// Limits that allow everything.
+const ENDLESS: Limits = Limits {
+    max_input: u64::MAX,
+    max_output: u64::MAX,
+    max_dimension: u64::MAX,
+    max_directories: u64::MAX,
+    max_tags: u64::MAX,
+    max_segments: u64::MAX,
+};
+
 fn inspected(file: &[u8]) -> Handle {
     inspect(file, 0, &WIDE, &mut Budget { remaining: PLENTY }).unwrap()
 }
@@ -192,20 +202,44 @@ fn a_forged_handle_is_refused_before_buffers_and_budget() {
         ] {
             let mut forged = words;
             forged[place] = other;
-            let forged = Handle::from_words(forged);
+            // Limits that let every word pass, so that decode is what refuses.
+            let forged = Handle::from_words(forged, &ENDLESS).unwrap();
             let refusal = decode_refused(&file, &forged, FEE, 12, 20);
             assert_eq!(refusal, Refusal::Invalid, "word {place} is {other}");
             let refusal = decode_refused(&file, &forged, 0, 0, 0);
             assert_eq!(refusal, Refusal::Invalid, "word {place} is {other}");
         }
     }
-    let stored = Handle::from_words(words);
+}
+
+#[test]
+fn a_stored_handle_decodes() {
+    let file = two_pixels(ByteOrder::Little, &CASE_1);
+    let words = inspected(&file).words();
+    let stored = Handle::from_words(words, &WIDE).unwrap();
     let mut budget = Budget { remaining: FEE };
     let lent = (&mut [0; 12], &mut [0; 20]);
     assert_eq!(
         decode(&file, 0, &WIDE, &stored, &mut budget, lent.0, lent.1),
         Ok(())
     );
+}
+
+#[test]
+fn no_words_make_a_handle_whose_buffers_are_above_the_limit() {
+    let words = inspected(&two_pixels(ByteOrder::Little, &CASE_1)).words();
+    // Output and scratch.
+    for place in [11, 12] {
+        for over in [WIDE.max_output + 1, u64::MAX] {
+            let mut forged = words;
+            forged[place] = over;
+            let refused = Handle::from_words(forged, &WIDE);
+            assert_eq!(refused, Err(Refusal::Limit), "word {place} is {over}");
+        }
+        let mut forged = words;
+        forged[place] = WIDE.max_output;
+        assert!(Handle::from_words(forged, &WIDE).is_ok());
+    }
 }
 
 #[test]
