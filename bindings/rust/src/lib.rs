@@ -59,12 +59,29 @@ impl Limits {
     }
 }
 
-/// Units of work that a caller grants. A call takes its charges from it in place, also before a
-/// refusal; the one charge that cannot be met is not taken.
-#[derive(Clone, Copy, Debug, PartialEq, Eq, Hash)]
+/// Units of work that a caller grants and lends to each call. A call takes its charges in place,
+/// also those before a refusal; a charge that cannot be met is not taken, not even in part.
+///
+/// `Budget { remaining: units }` and [`Budget::new`] make one, and `remaining` may be read and set
+/// at any time. It is neither `Copy` nor `Clone`: charges to a copy would leave the original as it
+/// was, and grant the same units twice.
+///
+/// ```compile_fail,E0599
+/// let budget = chelmesut::Budget::new(1000);
+/// let twice = budget.clone();
+/// ```
+#[derive(Debug, PartialEq, Eq, Hash)]
 pub struct Budget {
     /// Units not yet charged.
     pub remaining: u64,
+}
+
+impl Budget {
+    /// A budget of this many units. [`work_limit`] says how many suffice.
+    #[must_use]
+    pub const fn new(units: u64) -> Budget {
+        Budget { remaining: units }
+    }
 }
 
 /// What the patchy reading answers.
