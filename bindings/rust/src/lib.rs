@@ -84,8 +84,9 @@ impl Budget {
     }
 }
 
-/// What the patchy reading answers.
+/// What [`read_patchy`] answers. Later versions may answer more.
 #[derive(Clone, Copy, Debug, PartialEq, Eq, Hash)]
+#[non_exhaustive]
 pub struct Sizes {
     /// Pixels of a row of the picture.
     pub width: u64,

@@ -15,13 +15,16 @@ const SCRATCH: usize = (10 * WIDTH * ROWS) as usize;
 /// Bytes after those that a reading needs.
 const AFTER: usize = 5;
 
-const SIZES: Sizes = Sizes {
-    width: WIDTH,
-    height: HEIGHT,
-    block_width: WIDTH,
-    block_height: ROWS,
-    segments: STRIPS as u64,
-};
+/// The answer in the order of rule 8.9.
+fn numbers(sizes: Sizes) -> [u64; 5] {
+    [
+        sizes.width,
+        sizes.height,
+        sizes.block_width,
+        sizes.block_height,
+        sizes.segments,
+    ]
+}
 
 fn rows_of(strip: usize) -> u64 {
     ROWS.min(HEIGHT - ROWS * strip as u64)
@@ -160,7 +163,8 @@ fn strict(file: &[u8]) -> (Vec<u8>, u64) {
 
 /// A reading that answers, held to the strict picture and to the quality of each strip.
 fn held_to(left: &Left, pixels: &[u8], qualities: &[Quality; STRIPS]) {
-    assert_eq!(left.result, Ok(SIZES));
+    let sizes = [WIDTH, HEIGHT, WIDTH, ROWS, STRIPS as u64];
+    assert_eq!(left.result.map(numbers), Ok(sizes));
     let mut charged = DIRECTORY + PROFILE;
     for (strip, quality) in qualities.iter().enumerate() {
         let place = strip_bytes(strip);
@@ -194,14 +198,7 @@ fn marked_case_1_is_read_in_both_byte_orders() {
             ..Call::of(&file, &map)
         }
         .read();
-        let sizes = Sizes {
-            width: 2,
-            height: 1,
-            block_width: 2,
-            block_height: 1,
-            segments: 1,
-        };
-        assert_eq!(left.result, Ok(sizes));
+        assert_eq!(left.result.map(numbers), Ok([2, 1, 2, 1, 1]));
         assert_eq!(left.charged, DIRECTORY + PROFILE + 49);
         assert_eq!(left.output, PIXEL_1.repeat(2));
         assert_eq!(left.scratch, [0; 20]);
