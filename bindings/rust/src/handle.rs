@@ -3,8 +3,7 @@
 use crate::face::HANDLE_WORDS;
 use crate::{Limits, Refusal};
 
-/// What inspection found of a picture: the 17 numbers of rule 7.2 of docs/SPECIFICATION.md, as the
-/// words that the C face has.
+/// What inspection found of a picture: the 17 numbers of rule 7.2, as the C face has them.
 ///
 /// [`inspect`](crate::inspect) gives a handle, with sizes that the limits of that call allow. Its
 /// words may be stored or sent, and [`Handle::from_words`] makes a handle of them again: it takes

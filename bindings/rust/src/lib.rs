@@ -1,7 +1,7 @@
 #![doc = include_str!("../README.md")]
 #![deny(missing_docs)]
 #![deny(unsafe_code)]
-// The calls have the arguments that document 01 gives them.
+// The calls have the arguments of the C face.
 #![allow(clippy::too_many_arguments)]
 
 #[cfg(not(target_pointer_width = "64"))]
@@ -22,31 +22,39 @@ pub use handle::{AlphaMode, Handle};
 pub use quality::{NotAQuality, Quality};
 pub use refusal::Refusal;
 
-/// The bytes of a block: block `i` of a file is its bytes from `512 i` on, and the last block may
-/// be shorter.
+/// The bytes of a block, the unit in which a file arrives (rule 8.2): block `i` is the bytes from
+/// `512 i` to `512 i + 511`, the last block what is left. A delivery map has
+/// `file.len().div_ceil(BLOCK_LEN)` bytes.
 pub const BLOCK_LEN: usize = 512;
 
-/// What a caller allows a file to ask for. More than these is refused with [`Refusal::Limit`], but
-/// for a side of the picture, which is refused with [`Refusal::Unsupported`].
+/// What a caller allows a file to ask for (rule 1.6). Each number is the most that is allowed, so 0
+/// allows nothing.
+///
+/// More than a limit is refused with [`Refusal::Limit`]; a picture with a side above
+/// `max_dimension` is refused with [`Refusal::Unsupported`]. A caller who lends buffers of
+/// `max_output`, `max_output` and `max_segments` bytes for output, scratch and quality is never
+/// refused for a short one.
 #[derive(Clone, Copy, Debug, PartialEq, Eq, Hash)]
 pub struct Limits {
     /// Bytes of the file.
     pub max_input: u64,
-    /// Bytes of the picture, and bytes of scratch for one segment.
+    /// Bytes of the picture, six for each pixel, and bytes of scratch, ten for each pixel of a
+    /// segment.
     pub max_output: u64,
-    /// Pixels of a side of the picture.
+    /// Pixels of the picture's width, and of its height.
     pub max_dimension: u64,
-    /// Directories on the way to a page; the page's number must be below it.
+    /// Directories on the way to a page, its own included: the page's number, counted from 0, must
+    /// be below it.
     pub max_directories: u64,
-    /// Entries of a directory.
+    /// Entries of a directory, those of unknown tags included.
     pub max_tags: u64,
-    /// Segments of the picture.
+    /// Segments of the picture, which are its strips or its tiles.
     pub max_segments: u64,
 }
 
 impl Limits {
-    /// Limits for the camera's pictures: 640 by 480 pixels in 60 strips, one in a file of at most
-    /// 2 MiB.
+    /// Limits for the camera's pictures: 640 by 480 pixels in 60 strips, one picture in a file of at
+    /// most 2 MiB, with at most 32 entries in its directory.
     pub const fn camera() -> Limits {
         Limits {
             max_input: 2 * 1024 * 1024,
@@ -84,23 +92,25 @@ impl Budget {
     }
 }
 
-/// What [`read_patchy`] answers. Later versions may answer more.
+/// What [`read_patchy`] answers (rule 8.9). Later versions may answer more.
 #[derive(Clone, Copy, Debug, PartialEq, Eq, Hash)]
 #[non_exhaustive]
 pub struct Sizes {
-    /// Pixels of a row of the picture.
+    /// Pixels of a row of the picture. The output has `6 width height` bytes.
     pub width: u64,
     /// Rows of the picture.
     pub height: u64,
-    /// Pixels of a row of a segment.
+    /// Pixels of a row of a segment, those of a tile outside the picture included.
     pub block_width: u64,
-    /// Rows of a segment; the last strip may have fewer.
+    /// Rows of a segment; the last strip may have fewer, and a tile may reach below the picture.
     pub block_height: u64,
-    /// Segments of the picture, each with its quality byte.
+    /// Segments of the picture, each with its quality byte. They count from the left to the right
+    /// and then from the top to the bottom.
     pub segments: u64,
 }
 
-/// The order of a sample's bytes.
+/// The order of a sample's bytes, which the predictors are told. The calls that read a file find
+/// its byte order in the file.
 #[derive(Clone, Copy, Debug, PartialEq, Eq, Hash)]
 pub enum ByteOrder {
     /// The least significant byte first.
@@ -109,10 +119,13 @@ pub enum ByteOrder {
     Big,
 }
 
-/// Strict inspection of a page of a file that came whole: every check, the packets of every segment
-/// included, and no pixels yet.
+/// Strict inspection of a page of a file that came whole (rule 7.1): every check, the packets of
+/// every segment included, and no pixels yet. Pages count from 0.
 ///
-/// A success has charged the directories up to the page, 128 units and the fee of every segment.
+/// A success has charged the directories up to the page, 128 units and the fee of every segment
+/// (rule 5.4); [`work_limit`] bounds that. A refusal has charged what came before it. It refuses
+/// with every number but [`OutputTooSmall`](Refusal::OutputTooSmall),
+/// [`NotArrived`](Refusal::NotArrived) and [`MapSize`](Refusal::MapSize).
 pub fn inspect(
     file: &[u8],
     page: u64,
@@ -126,14 +139,14 @@ pub fn inspect(
 }
 
 /// Strict decode of the picture that [`inspect`] gave the handle for, into the first
-/// [`Handle::output_len`] bytes of `output`.
+/// [`Handle::output_len`] bytes of `output` (rules 7.4 and 7.5).
 ///
 /// It refuses, in this order: a handle that `inspect` does not give for this file, page and limits,
 /// [`Invalid`](Refusal::Invalid); output or scratch shorter than the handle says,
 /// [`OutputTooSmall`](Refusal::OutputTooSmall); less than [`Handle::decode_work_limit`] units,
 /// [`Budget`](Refusal::Budget). A refusal charges nothing and leaves both buffers as they were. A
-/// success zeroes the first [`Handle::scratch_len`] bytes of `scratch`; the later bytes of both
-/// buffers stay.
+/// success charges [`Handle::decode_work_limit`] and zeroes the first [`Handle::scratch_len`] bytes
+/// of `scratch`; the later bytes of both buffers stay.
 ///
 /// To check the handle the page is inspected again, which is not charged: the limits bound that
 /// work, `max_directories` where a file's directories form a loop.
@@ -158,17 +171,21 @@ pub fn decode(
     ))
 }
 
-/// The patchy reading: a page of a file of which some blocks may not have come.
+/// The patchy reading (group 8 of the rules): a page of a file of which some blocks may not have
+/// come. Pages count from 0.
 ///
-/// `map` has a byte for each block of [`BLOCK_LEN`] bytes, 1 for one that arrived; a map of length
-/// 0 stands for a file that came whole. Bytes that did not arrive have no influence, whatever
-/// stands in their place. Every segment gets a byte in `quality` (see [`Quality`]), and one that is
-/// not good is zero in `output`.
+/// `map` has a byte for each block of [`BLOCK_LEN`] bytes: 1 for one that came, any other value for
+/// one that did not. A map of length 0 stands for a file that came whole. Bytes that did not come
+/// have no influence, whatever stands in their place. Every segment gets a byte in `quality` (see
+/// [`Quality`]), and the pixels of one that is not good are zero in `output`, which no pixel of a
+/// good one is.
 ///
-/// A refusal leaves `output` and `scratch` as they were and zeroes the whole of `quality`. Buffers
-/// of `max_output`, `max_output` and `max_segments` bytes are never too short. After a success the
-/// quality bytes after the last segment are 0 and the scratch that was needed, ten bytes for each
+/// A success has charged the directories up to the page, 128 units, and for each segment its fee,
+/// or 1 unit if it is [`Missing`](Quality::Missing) or [`Outside`](Quality::Outside). The quality
+/// bytes after the last segment are then 0 and the scratch that was needed, ten bytes for each
 /// pixel of a block, is zeroed; the later bytes of `output` and `scratch` stay.
+///
+/// A refusal leaves `output` and `scratch` as they were and zeroes the whole of `quality`.
 pub fn read_patchy(
     file: &[u8],
     map: &[u8],
@@ -202,19 +219,28 @@ pub fn read_patchy(
     })
 }
 
-/// A bound on what an inspection, or a patchy reading, of any file charges under these limits;
-/// [`Refusal::Limit`] if it is above 2^64-1.
+/// A bound on the units that an inspection, or a patchy reading, of this page of any file charges
+/// under these limits (rule 5.7); [`Refusal::Limit`] if it is above 2^64-1.
+///
+/// A decode charges [`Handle::decode_work_limit`], which is part of what its inspection charged.
 pub fn work_limit(page: u64, limits: &Limits) -> Result<u64, Refusal> {
     let mut limit = 0;
     Refusal::told(face::work_limit(page, limits, &mut limit))?;
     Ok(limit)
 }
 
-/// Predictor 64: samples of 64 bits from `raw`, row by row, into little-endian samples in `output`.
+/// Predictor 64 (rules 9.1 to 9.3): samples of 64 bits from `raw`, row by row, into little-endian
+/// samples in `output`, `8 width height channels` bytes of each.
 ///
-/// `order` is the input's. With `predict` each sample is added, mod 2^64, to the one before it in
-/// its row and channel; the sum starts anew where the column is a multiple of `reset_width`. A
-/// refusal leaves `output` as it was; later bytes of it stay.
+/// `width` is in pixels, of `channels` samples each; `order` is the input's. With `predict` each
+/// sample is added, mod 2^64, to the one before it in its row and channel; the sum starts anew
+/// where the column is a multiple of `reset_width`. Without it samples are copied.
+///
+/// It refuses, in this order: channels that are not 1 to 4, [`Unsupported`](Refusal::Unsupported);
+/// a width, height or reset width of 0, [`Invalid`](Refusal::Invalid); more than 2^64-1 bytes,
+/// [`Limit`](Refusal::Limit); `raw` too short, [`Truncated`](Refusal::Truncated); `output` too
+/// short, [`OutputTooSmall`](Refusal::OutputTooSmall). A refusal leaves `output` as it was; later
+/// bytes of it stay.
 pub fn predictor64(
     raw: &[u8],
     width: u64,
@@ -237,9 +263,15 @@ pub fn predictor64(
     ))
 }
 
-/// Predictor 3: rows of `row` bytes each are summed mod 256 at distance `channels`, then their
-/// planes, most significant first, are gathered into samples of `sample_bytes` bytes in the byte
-/// order `order`.
+/// Predictor 3 (rules 9.4 and 9.5), for floating-point samples: rows of `row` bytes each are summed
+/// mod 256 at distance `channels`, then their planes, most significant first, are gathered into
+/// samples of `sample_bytes` bytes in the byte order `order`.
+///
+/// It refuses, in this order: samples that have not 2, 3, 4 or 8 bytes, channels that are not 1 to
+/// 64 or a row of 0 bytes, [`Unsupported`](Refusal::Unsupported); a row that is no multiple of
+/// `channels` times `sample_bytes` or an input that is no multiple of the row,
+/// [`Invalid`](Refusal::Invalid); `scratch` or `output` shorter than `raw`,
+/// [`OutputTooSmall`](Refusal::OutputTooSmall).
 ///
 /// A success leaves the summed bytes in `scratch`. A refusal leaves both buffers as they were;
 /// later bytes of both stay.

@@ -3,18 +3,22 @@
 use std::error::Error;
 use std::fmt;
 
-/// What the patchy reading says of a segment, by its quality byte.
+/// What the patchy reading says of a segment, by its quality byte (rule 8.6). The pixels of a
+/// segment that is not good are zero in the output.
+///
+/// These are all, so a `match` needs no arm for others: a further code would have to be looked at
+/// by everyone who shows a picture.
 #[derive(Clone, Copy, Debug, PartialEq, Eq, Hash)]
 pub enum Quality {
-    /// No segment was read: after a refusal, and after the last segment.
+    /// 0: no segment was read, after a refusal and after the last segment.
     Unread = 0,
-    /// The segment is in the output.
+    /// 1: the segment came, its packets are accepted, and its pixels are in the output.
     Good = 1,
-    /// A byte of the segment, or of its entries, did not arrive. Zero in the output.
+    /// 2: a byte of the segment, or of its entries, is in a block that did not come.
     Missing = 2,
-    /// A byte of the segment, or of its entries, is outside the file. Zero in the output.
+    /// 3: a byte of the segment, or of its entries, is outside the file.
     Outside = 3,
-    /// The segment arrived and its packets are not accepted. Zero in the output.
+    /// 4: the segment came and its packets are not accepted.
     Rejected = 4,
 }
 
@@ -39,7 +43,7 @@ impl From<Quality> for u8 {
     }
 }
 
-/// A byte above 4, which the patchy reading never writes.
+/// A byte above 4, which the patchy reading never writes: the byte itself.
 #[derive(Clone, Copy, Debug, PartialEq, Eq, Hash)]
 pub struct NotAQuality(pub u8);
 

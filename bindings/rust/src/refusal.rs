@@ -3,7 +3,7 @@
 use std::error::Error;
 use std::fmt;
 
-/// Why a call refused: the numbers of rule 1.1 of docs/SPECIFICATION.md.
+/// Why a call refused, by the numbers of rule 1.1.
 ///
 /// The checks of a call have a fixed order, and the first that fails gives the number. After a
 /// refusal the lent buffers are as they were, but that a refused
