@@ -20,10 +20,10 @@ pub const WIDE: Limits = Limits {
     max_segments: 1000,
 };
 
-/// Document 01's marked case 1: two pixels, one run for each plane.
+/// The packets of rule 10.1: two pixels, one run for each plane.
 pub const CASE_1: [u8; 8] = [0x80, 0x07, 0x80, 0x01, 0x80, 0x02, 0x80, 0x03];
 
-/// One pixel of marked case 1.
+/// One pixel of rule 10.1.
 pub const PIXEL_1: [u8; 6] = [0x01, 0x07, 0xC7, 0x00, 0x17, 0x01];
 
 /// The entries of a directory here, and what a directory charges.
@@ -142,7 +142,7 @@ impl Picture<'_> {
     }
 }
 
-/// A file of two pixels with these packets, such as marked case 1.
+/// A file of two pixels with these packets, such as those of rule 10.1.
 pub fn two_pixels(order: ByteOrder, packets: &[u8]) -> Vec<u8> {
     Picture {
         order,

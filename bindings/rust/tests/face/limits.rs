@@ -59,7 +59,7 @@ fn each_limit_is_met_exactly_and_bounds_what_it_names() {
 }
 
 #[test]
-fn the_work_limit_is_the_formula_of_upstream_or_too_large() {
+fn the_work_limit_is_the_formula_of_rule_5_7_or_too_large() {
     let limits = Limits {
         max_input: 1000,
         max_output: 600,

@@ -1,5 +1,5 @@
-//! The crate as a caller sees it, against document 01: expected values are the document's, worked
-//! out by hand, or libtiff's.
+//! The crate as a caller sees it, against docs/SPECIFICATION.md: expected values are worked out by
+//! hand from its rules, or are libtiff's.
 
 mod camera;
 mod files;

@@ -187,7 +187,7 @@ fn held_to(left: &Left, pixels: &[u8], qualities: &[Quality; STRIPS]) {
 }
 
 #[test]
-fn marked_case_1_is_read_in_both_byte_orders() {
+fn the_case_of_rule_10_1_is_read_in_both_byte_orders() {
     for order in BOTH {
         let file = two_pixels(order, &CASE_1);
         let map = whole_map(&file);

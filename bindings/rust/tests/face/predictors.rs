@@ -1,10 +1,10 @@
-//! The two predictors: document 01's marked cases 11 and 12, orders, prediction, and every refusal.
+//! The two predictors: rules 10.11 and 10.12, orders, prediction, and every refusal.
 
 use crate::files::{BOTH, STALE};
 use chelmesut::{predictor3, predictor64, ByteOrder, Refusal};
 
 #[test]
-fn marked_case_11() {
+fn the_case_of_rule_10_11() {
     let samples = [u64::MAX, 2];
     for order in BOTH {
         let raw = samples.map(|sample| match order {
@@ -37,7 +37,7 @@ fn predictor_64_sums_each_row_and_channel_by_itself() {
 }
 
 #[test]
-fn predictor_64_refuses_in_the_order_of_the_document() {
+fn predictor_64_refuses_in_the_order_of_rule_9_1() {
     let huge = 1 << 31;
     for ((width, height, channels, reset), raw_len, output_len, refusal) in [
         ((0, 0, 0, 0), 0, 0, Refusal::Unsupported),
@@ -71,7 +71,7 @@ fn predictor_64_refuses_in_the_order_of_the_document() {
 }
 
 #[test]
-fn marked_case_12() {
+fn the_case_of_rule_10_12() {
     for (order, expected) in [
         (ByteOrder::Little, [3, 1, 4, 2]),
         (ByteOrder::Big, [1, 3, 2, 4]),
@@ -99,7 +99,7 @@ fn predictor_3_takes_each_row_by_itself() {
 }
 
 #[test]
-fn predictor_3_refuses_in_the_order_of_the_document() {
+fn predictor_3_refuses_in_the_order_of_rule_9_4() {
     for ((row, channels, bytes), raw_len, scratch_len, output_len, refusal) in [
         ((4, 1, 1), 4, 4, 4, Refusal::Unsupported),
         ((4, 1, 5), 4, 4, 4, Refusal::Unsupported),

@@ -32,7 +32,7 @@ fn refused(file: &[u8], page: u64, limits: &Limits) -> (Refusal, u64) {
 }
 
 #[test]
-fn marked_case_1_is_read_in_both_byte_orders() {
+fn the_case_of_rule_10_1_is_read_in_both_byte_orders() {
     for order in BOTH {
         let file = two_pixels(order, &CASE_1);
         let mut budget = Budget { remaining: PLENTY };
@@ -92,7 +92,7 @@ fn every_budget_that_is_too_small_is_left_as_the_charges_say() {
 }
 
 #[test]
-fn inspection_refuses_by_the_numbers_of_the_document() {
+fn inspection_refuses_by_the_numbers_of_the_rules() {
     let whole = DIRECTORY + PROFILE + FEE;
     for order in BOTH {
         let good = two_pixels(order, &CASE_1);
