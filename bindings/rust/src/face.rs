@@ -1,17 +1,30 @@
 //! The C face: its six functions declared as include/chelmesut.h has them, and a safe function over
 //! each. All unsafe code is here.
 //!
-//! The C face takes any numbers and any bytes. What it asks of its caller is what slices and
-//! references of Rust are, those of length 0 included: pointers that are not null, as much behind
-//! them as the length says, and nothing that it writes overlapping another buffer. It keeps no
-//! pointer after a call, and every value of the bytes and words that it writes is a valid one.
+//! The C face takes any numbers and any bytes. What it asks of its caller:
+//!
+//! - No pointer is null, also where the length is 0, and behind each is as much as the length says,
+//!   or the number of words that the declaration has.
+//! - Nothing that it writes overlaps another buffer.
+//! - A `bool` is 0 or 1.
+//! - While a call runs nothing else writes what is lent to it, be it a thread, another process or a
+//!   device. Packets are checked and then read again with no check of an index, since the proof
+//!   covers that; after a write between the two it would read or write outside the buffers.
+//!
+//! Slices and references of Rust are all of this, those of length 0 included. The last point is part
+//! of what a `&[u8]` promises, so it is up to whoever makes one of memory that others write; README
+//! says so to those whose blocks come by DMA. The C face keeps no pointer after a call, and every
+//! value of the bytes and words that it writes is a valid one.
+//!
+//! One thing no type can see to: the archive must be that of this version, since another may write
+//! more words into a handle or an answer than are lent to it here.
 
 use crate::Limits;
 
-/// The words of a handle.
+/// The words of a handle (rule 7.2).
 pub const HANDLE_WORDS: usize = 17;
 
-/// The words of the patchy reading's answer.
+/// The words of the patchy reading's answer (rule 8.9).
 pub const ANSWER_WORDS: usize = 5;
 
 extern "C" {
