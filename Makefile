@@ -89,4 +89,5 @@ rust:
 	@tools/archive
 	cd bindings/rust && cargo build --offline --locked
 	cd bindings/rust && cargo test --offline --locked
+	cd bindings/rust && RUSTDOCFLAGS='-D warnings' cargo doc --offline --locked --no-deps
 	cd bindings/rust && cargo run --offline --locked --example strips -- ../../$(CAMERA)
