@@ -94,7 +94,7 @@ static bool only_strips(struct memory *file, size_t block)
     uint64_t first = TIFFGetStrileOffset(tiff, 0);
     uint64_t end = TIFFGetStrileOffset(tiff, STRIPS - 1) + TIFFGetStrileByteCount(tiff, STRIPS - 1);
     TIFFClose(tiff);
-    return block * BLOCK >= first && (block + 1) * BLOCK <= end;
+    return block * CHELMESUT_BLOCK >= first && (block + 1) * CHELMESUT_BLOCK <= end;
 }
 
 /* One block in twenty is lost, the same ones in every run. */
@@ -156,14 +156,15 @@ static void compare_pixels(struct content *content, enum way way)
     enum { STRIP = OUTPUT / STRIPS };
     static const uint8_t blank[STRIP];
     memset(output, 0xa5, sizeof output);
-    memset(quality, 1, sizeof quality);
+    memset(quality, CHELMESUT_QUALITY_GOOD, sizeof quality);
     read_by(way, content);
     for (int strip = 0; strip < STRIPS; strip++) {
-        if (memcmp(output + strip * STRIP, quality[strip] == 1 ? expected + strip * STRIP : blank, STRIP) != 0)
+        if (memcmp(output + strip * STRIP, quality[strip] == CHELMESUT_QUALITY_GOOD ? expected + strip * STRIP : blank,
+                   STRIP) != 0)
             give_up("bench: the pixels of strip %d of '%s' are not libtiff's", strip, content->name);
         if (way == PATCHY_LOST)
-            content->good += quality[strip] == 1;
-        else if (quality[strip] != 1)
+            content->good += quality[strip] == CHELMESUT_QUALITY_GOOD;
+        else if (quality[strip] != CHELMESUT_QUALITY_GOOD)
             give_up("bench: strip %d of '%s' came, and is marked %d", strip, content->name, quality[strip]);
     }
 }

@@ -21,8 +21,6 @@
 #define FAILED_FILE "target/compare-failed.tif"
 #define FAILED_MAP "target/compare-failed.map"
 
-enum { TRUNCATED = 1, INVALID, UNSUPPORTED, LIMIT, PAGE_NOT_FOUND, OUTPUT_TOO_SMALL, BUDGET, NOT_ARRIVED, MAP_SIZE };
-enum { GOOD = 1, MISSING = 2 };
 enum { MOST_PAGES = 3, TAIL = 64 };
 
 /* ---- a picture, what libtiff says of it, and what is charged for it */
@@ -338,7 +336,7 @@ static bool came(uint64_t at, uint64_t n)
 {
     if (now.map_length == 0 || n == 0)
         return true;
-    for (uint64_t block = at / BLOCK; block <= (at + n - 1) / BLOCK; block++)
+    for (uint64_t block = at / CHELMESUT_BLOCK; block <= (at + n - 1) / CHELMESUT_BLOCK; block++)
         if (now.map[block] != 1)
             return false;
     return true;
@@ -378,8 +376,8 @@ static uint8_t code_of(const struct picture *picture, const struct page *page, u
     uint32_t counts = page->shape.tiled ? TIFFTAG_TILEBYTECOUNTS : TIFFTAG_STRIPBYTECOUNTS;
     return value_came(picture, page, offsets, segment) && value_came(picture, page, counts, segment) &&
                    came(page->offsets[segment], page->counts[segment])
-               ? GOOD
-               : MISSING;
+               ? CHELMESUT_QUALITY_GOOD
+               : CHELMESUT_QUALITY_MISSING;
 }
 
 /* ---- buffers with a known content, so that what stays and what changes can be told */
@@ -431,7 +429,8 @@ static void pixels_are(const struct page *page, const uint8_t *output, const uin
         for (uint32_t x = 0; x < shape->width; x++) {
             size_t at = PIXEL * ((size_t)y * shape->width + x);
             uint32_t segment = y / shape->block_height * across + x / shape->block_width;
-            const uint8_t *ours = output + at, *expected = codes[segment] == GOOD ? page->pixels + at : nothing;
+            const uint8_t *ours = output + at,
+                          *expected = codes[segment] == CHELMESUT_QUALITY_GOOD ? page->pixels + at : nothing;
             if (memcmp(ours, expected, PIXEL) != 0)
                 differ("pixel (%u, %u) of segment %u, which has quality %u, is %02x %02x %02x %02x %02x %02x, expected %02x "
                        "%02x %02x %02x %02x %02x",
@@ -509,7 +508,7 @@ static void inspect_page(struct dice *dice, const struct picture *picture, const
     same("what inspection leaves of the budget", budget, spare);
     words_are("handle", handle, expected, CHELMESUT_HANDLE_WORDS);
     /* One unit short: the last fee is not taken. */
-    inspect_refused(limits, now.page, work - 1, BUDGET, fee_of(page, page->segments - 1) - 1);
+    inspect_refused(limits, now.page, work - 1, CHELMESUT_BUDGET, fee_of(page, page->segments - 1) - 1);
 }
 
 /* Decode with what is lent, and what it answers and leaves. */
@@ -537,25 +536,25 @@ static void decode_all(struct dice *dice, const struct picture *picture, const s
     now.reading = "decode of a forged handle";
     memcpy(forged, handle, sizeof forged);
     forged[below(dice, CHELMESUT_HANDLE_WORDS)] += 1 + below(dice, 3);
-    decode_page(picture, limits, forged, page->fees, &output, &scratch, INVALID, page->fees);
+    decode_page(picture, limits, forged, page->fees, &output, &scratch, CHELMESUT_INVALID, page->fees);
 
     now.reading = "decode with short output";
     shorter = output;
     shorter.length = pixel_bytes(&page->shape) - 1;
-    decode_page(picture, limits, handle, page->fees, &shorter, &scratch, OUTPUT_TOO_SMALL, page->fees);
+    decode_page(picture, limits, handle, page->fees, &shorter, &scratch, CHELMESUT_OUTPUT_TOO_SMALL, page->fees);
 
     now.reading = "decode with short scratch";
     shorter = scratch;
     shorter.length = scratch_of(page) - 1;
-    decode_page(picture, limits, handle, page->fees, &output, &shorter, OUTPUT_TOO_SMALL, page->fees);
+    decode_page(picture, limits, handle, page->fees, &output, &shorter, CHELMESUT_OUTPUT_TOO_SMALL, page->fees);
 
     now.reading = "decode with a unit too few";
-    decode_page(picture, limits, handle, page->fees - 1, &output, &scratch, BUDGET, page->fees - 1);
+    decode_page(picture, limits, handle, page->fees - 1, &output, &scratch, CHELMESUT_BUDGET, page->fees - 1);
 
     now.reading = "decode";
     decode_page(picture, limits, handle, page->fees + spare, &output, &scratch, 0, spare);
     zero_from(&scratch, 0, scratch_of(page));
-    memset(codes, GOOD, page->segments);
+    memset(codes, CHELMESUT_QUALITY_GOOD, page->segments);
     pixels_are(page, output.bytes, codes);
 
     free(codes);
@@ -643,15 +642,15 @@ static void read_patchily(struct dice *dice, const struct picture *picture, cons
     struct lent lent;
     if (!front_came(picture, now.page, &front)) {
         sum.refused++;
-        patchy_refused(dice, picture, now.page, limits, front + spare, NONE_SHORT, NOT_ARRIVED, spare);
+        patchy_refused(dice, picture, now.page, limits, front + spare, NONE_SHORT, CHELMESUT_NOT_ARRIVED, spare);
         return;
     }
     codes = lend(page->segments);
     for (uint32_t k = 0; k < page->segments; k++) {
         codes[k] = code_of(picture, page, k);
-        charges += codes[k] == GOOD ? fee_of(page, k) : 1;
-        sum.good += codes[k] == GOOD;
-        sum.missing += codes[k] == MISSING;
+        charges += codes[k] == CHELMESUT_QUALITY_GOOD ? fee_of(page, k) : 1;
+        sum.good += codes[k] == CHELMESUT_QUALITY_GOOD;
+        sum.missing += codes[k] == CHELMESUT_QUALITY_MISSING;
     }
     lent = lend_buffers(dice, page);
     call_patchy(now.page, limits, front + charges + spare, &lent, 0, spare, answer);
@@ -666,12 +665,12 @@ static void read_patchily(struct dice *dice, const struct picture *picture, cons
     pixels_are(page, lent.output.bytes, codes);
     take_back(&lent);
     free(codes);
-    patchy_refused(dice, picture, now.page, limits, front + charges - 1, NONE_SHORT, BUDGET, charges - 1);
+    patchy_refused(dice, picture, now.page, limits, front + charges - 1, NONE_SHORT, CHELMESUT_BUDGET, charges - 1);
 }
 
 static void let_come(uint8_t *map, uint64_t at, uint64_t n)
 {
-    for (uint64_t block = at / BLOCK; block <= (at + n - 1) / BLOCK; block++)
+    for (uint64_t block = at / CHELMESUT_BLOCK; block <= (at + n - 1) / CHELMESUT_BLOCK; block++)
         map[block] = 1;
 }
 
@@ -705,7 +704,7 @@ static struct memory with_stale_blocks(struct dice *dice, const struct memory *f
     struct memory stale = {0};
     append(&stale, file->bytes, file->length);
     for (size_t i = 0; i < stale.length; i++)
-        if (map[i / BLOCK] != 1)
+        if (map[i / CHELMESUT_BLOCK] != 1)
             stale.bytes[i] = (uint8_t)roll(dice);
     return stale;
 }
@@ -728,13 +727,13 @@ static void read_every_map(struct dice *dice, const struct picture *picture, con
     read_patchily(dice, picture, limits);
 
     now.reading = "patchy reading with a short buffer";
-    patchy_refused(dice, picture, now.page, limits, units, SHORT_OUTPUT, OUTPUT_TOO_SMALL, units - front);
-    patchy_refused(dice, picture, now.page, limits, units, SHORT_SCRATCH, OUTPUT_TOO_SMALL, units - front);
-    patchy_refused(dice, picture, now.page, limits, units, SHORT_QUALITY, OUTPUT_TOO_SMALL, units - front);
+    patchy_refused(dice, picture, now.page, limits, units, SHORT_OUTPUT, CHELMESUT_OUTPUT_TOO_SMALL, units - front);
+    patchy_refused(dice, picture, now.page, limits, units, SHORT_SCRATCH, CHELMESUT_OUTPUT_TOO_SMALL, units - front);
+    patchy_refused(dice, picture, now.page, limits, units, SHORT_QUALITY, CHELMESUT_OUTPUT_TOO_SMALL, units - front);
 
     now.reading = "patchy reading with a map of the wrong length";
     now.map_length = blocks + 1;
-    patchy_refused(dice, picture, now.page, limits, units, NONE_SHORT, MAP_SIZE, units);
+    patchy_refused(dice, picture, now.page, limits, units, NONE_SHORT, CHELMESUT_MAP_SIZE, units);
 
     now.reading = "patchy reading with lost blocks";
     now.map_length = blocks;
@@ -761,11 +760,11 @@ static void ask_for_too_much(struct dice *dice, const struct picture *picture)
     struct limits limits = some_limits(dice, picture, last);
     now.reading = "a page after the last";
     limits.max_directories = picture->pages + 1;
-    inspect_refused(&limits, picture->pages, front + spare, PAGE_NOT_FOUND, spare);
-    patchy_refused(dice, picture, picture->pages, &limits, front + spare, NONE_SHORT, PAGE_NOT_FOUND, spare);
+    inspect_refused(&limits, picture->pages, front + spare, CHELMESUT_PAGE_NOT_FOUND, spare);
+    patchy_refused(dice, picture, picture->pages, &limits, front + spare, NONE_SHORT, CHELMESUT_PAGE_NOT_FOUND, spare);
     limits.max_directories = picture->pages;
-    inspect_refused(&limits, picture->pages, spare, LIMIT, spare);
-    patchy_refused(dice, picture, picture->pages, &limits, spare, NONE_SHORT, LIMIT, spare);
+    inspect_refused(&limits, picture->pages, spare, CHELMESUT_LIMIT, spare);
+    patchy_refused(dice, picture, picture->pages, &limits, spare, NONE_SHORT, CHELMESUT_LIMIT, spare);
 }
 
 static void compare_picture(uint64_t seed)

@@ -86,7 +86,7 @@ uint64_t __wrap_chelmesut_inspect(const uint8_t *file, size_t file_len, uint64_t
         handle[CHELMESUT_DECODE_WORK_LIMIT]--;
     if (fault == HANDLE_WRITTEN_ON_REFUSAL && number != 0)
         handle[CHELMESUT_SEGMENTS] = 0;
-    if (fault == INSPECT_CHARGES_WHAT_FAILS && number == 7)
+    if (fault == INSPECT_CHARGES_WHAT_FAILS && number == CHELMESUT_BUDGET)
         *budget = 0;
     return number;
 }
@@ -101,7 +101,7 @@ uint64_t __wrap_chelmesut_decode(const uint8_t *file, size_t file_len, uint64_t 
         __real_chelmesut_inspect(file, file_len, page, LIMIT_WORDS, &all, own);
     number =
         __real_chelmesut_decode(file, file_len, page, LIMIT_WORDS, own, budget, output, output_len, scratch, scratch_len);
-    if (fault == DECODE_OUTPUT_BEFORE_BUDGET && number == 7)
+    if (fault == DECODE_OUTPUT_BEFORE_BUDGET && number == CHELMESUT_BUDGET)
         output[0] ^= 1;
     if (number != 0)
         return number;
@@ -137,7 +137,7 @@ static void leave_pixels(const uint64_t answer[5], const uint8_t *quality, const
     for (uint64_t k = 0; k < answer[CHELMESUT_A_SEGMENTS]; k++) {
         uint64_t y = k / across * answer[CHELMESUT_A_BLOCK_HEIGHT], x = k % across * answer[CHELMESUT_A_BLOCK_WIDTH];
         uint64_t place = PIXEL * (y * answer[CHELMESUT_A_WIDTH] + x);
-        if (quality[k] != 1)
+        if (quality[k] != CHELMESUT_QUALITY_GOOD)
             memcpy(output + place, before + place, PIXEL);
     }
 }
@@ -147,19 +147,19 @@ static void spoil_picture(const uint64_t answer[5], uint64_t *budget, const uint
 {
     uint64_t pixels = PIXEL * answer[CHELMESUT_A_WIDTH] * answer[CHELMESUT_A_HEIGHT],
              segments = answer[CHELMESUT_A_SEGMENTS];
-    uint8_t *lost = memchr(quality, 2, segments);
+    uint8_t *lost = memchr(quality, CHELMESUT_QUALITY_MISSING, segments);
     if (fault == PATCHY_BIT_OF_PIXEL)
         output[pixels - 1] ^= 128;
     if (fault == PATCHY_PREVIOUS_PIXELS)
         leave_pixels(answer, quality, before, output);
     if (fault == PATCHY_LOST_MARKED_GOOD && lost)
-        *lost = 1;
+        *lost = CHELMESUT_QUALITY_GOOD;
     if (fault == PATCHY_ALL_MARKED_LOST)
-        memset(quality, 2, segments);
+        memset(quality, CHELMESUT_QUALITY_MISSING, segments);
     if (fault == PATCHY_CHARGE_OF_LOST_SEGMENT && lost)
         *budget += 1;
     if (fault == PATCHY_QUALITY_STAYS_BEHIND_LAST && quality_len > segments)
-        quality[quality_len - 1] = 1;
+        quality[quality_len - 1] = CHELMESUT_QUALITY_GOOD;
     if (fault == PATCHY_SCRATCH_NOT_ZERO)
         scratch[0] = 1;
     if (fault == PATCHY_BYTE_AFTER_OUTPUT && output_len > pixels)
@@ -174,7 +174,7 @@ uint64_t __wrap_chelmesut_read_patchy(const uint8_t *file, size_t file_len, cons
     uint8_t *seen = copy_of(map, map_len), *before = copy_of(output, output_len), *marks = copy_of(quality, quality_len);
     uint64_t number;
     misread(seen, map_len);
-    if (fault == PATCHY_WRONG_MAP_TAKEN && map_len > (file_len + BLOCK - 1) / BLOCK)
+    if (fault == PATCHY_WRONG_MAP_TAKEN && map_len > (file_len + CHELMESUT_BLOCK - 1) / CHELMESUT_BLOCK)
         map_len = 0;
     number = __real_chelmesut_read_patchy(file, file_len, seen, map_len, page, LIMIT_WORDS, budget, output, output_len,
                                           scratch, scratch_len, quality, quality_len, answer);

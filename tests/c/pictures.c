@@ -62,7 +62,7 @@ void drop(struct memory *file)
 
 size_t blocks_of(const struct memory *file)
 {
-    return (file->length + BLOCK - 1) / BLOCK;
+    return (file->length + CHELMESUT_BLOCK - 1) / CHELMESUT_BLOCK;
 }
 
 /* splitmix64 */

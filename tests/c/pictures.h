@@ -2,12 +2,13 @@
  * them, random numbers that are the same in every run, and the limits of a call. */
 #ifndef PICTURES_H
 #define PICTURES_H
+#include "../../include/chelmesut.h"
 #include <stdbool.h>
 #include <stddef.h>
 #include <stdint.h>
 #include <tiffio.h>
 
-enum { BLOCK = 512, PIXEL = 6 };
+enum { PIXEL = 6 };
 
 /* Says what went wrong by way of printf's words, and ends the program with status 2: a fault of the test itself. */
 _Noreturn void give_up(const char *words, ...) __attribute__((format(printf, 1, 2)));

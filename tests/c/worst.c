@@ -101,7 +101,7 @@ static void loop_of_one_free_tag(struct input *input, uint32_t times)
 /* The directory lies across two blocks, each of which is looked at in the map every time. */
 static void loop_across_blocks(struct input *input, uint32_t times)
 {
-    enum { PLACE = BLOCK - 6 };
+    enum { PLACE = CHELMESUT_BLOCK - 6 };
     put(&input->file, 0x002a4949, 4);
     put(&input->file, PLACE, 4);
     while (input->file.length < PLACE)
@@ -278,7 +278,7 @@ static void bad_packets(struct input *input, uint32_t segments)
 static void picture_without_end(struct input *input, struct shape shape, uint32_t blocks)
 {
     struct memory stored = {0};
-    for (uint32_t i = 0; i < blocks * BLOCK; i++)
+    for (uint32_t i = 0; i < blocks * CHELMESUT_BLOCK; i++)
         put(&stored, 0, 1);
     picture_of(input, shape, stored);
     lose_last_block(input);
