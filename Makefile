@@ -1,12 +1,13 @@
 # What people run here. `make` alone says what there is.
-.PHONY: help demo strips strips-test test vectors format lib readme compare faults bench worst rust
+.PHONY: help demo strips strips-test test vectors vectors-write format lib readme compare faults bench worst rust
 
 help:
 	@echo "make demo         the camera's picture without one block: what came of each strip; the grey picture goes to target/demo.pgm"
 	@echo 'make strips       prove and build the program bin/strips, which reports what came of a picture'
 	@echo 'make strips-test  run it on whole, patchy and broken pictures, and compare what it prints'
 	@echo 'make test         prove every crate from nothing, try every must-fail edit, run every program: the gate'
-	@echo 'make vectors      compute the expected answers of the vectors anew, and try mistakes against them (needs python3)'
+	@echo 'make vectors      compute the expected answers of the vectors anew, compare, and try mistakes against them (needs python3)'
+	@echo 'make vectors-write  write them instead (needs python3)'
 	@echo 'make lib          prove the library and build it for C and Rust'
 	@echo "make readme       compile and run README's example in C (needs gcc)"
 	@echo 'make rust         build, test and run the Rust binding (needs cargo)'
@@ -31,9 +32,15 @@ test:
 	@.ci/run
 
 vectors:
+	@tools/need python3
 	python3 tests/vectors.py
 	python3 tests/vectors.py --wrong
 	python3 tests/incident.py
+
+vectors-write:
+	@tools/need python3
+	python3 tests/vectors.py --write
+	python3 tests/incident.py --write
 
 format:
 	rt fmt

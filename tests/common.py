@@ -1,6 +1,7 @@
 """What the scripts that write vectors share: drawn numbers, records, the files of a crate, and mistakes put into a model."""
 import os
 import struct
+import sys
 
 TOP = 2 ** 64 - 1   # the largest number a caller can pass
 FILE = 65536        # the longest file that a program reads
@@ -54,20 +55,27 @@ def content(*path):
     with open(os.path.join(*path), 'rb') as f:
         return f.read()
 
-def hold(root, written):
+def hold(root, made):
     """Compares files with what is there; the exit status."""
-    bad = 0
-    for name, body in written.items():
-        if not os.path.exists(os.path.join(root, name)) or content(root, name) != body:
-            print('differs:', name)
-            bad = 1
-    return bad
+    differing = [name for name, body in made.items() if not os.path.exists(os.path.join(root, name)) or content(root, name) != body]
+    for name in differing:
+        print('differs:', name)
+    print('%s: %d files computed, %d differ from what is there' % (os.path.basename(root), len(made), len(differing)))
+    return 1 if differing else 0
 
-def write(root, written):
+def write(root, made):
     """Writes files; the exit status."""
-    for name, body in written.items():
+    for name, body in made.items():
         path = os.path.join(root, name)
         os.makedirs(os.path.dirname(path), exist_ok=True)
         with open(path, 'wb') as f:
             f.write(body)
+        print('%-28s %6d bytes' % (name, len(body)))
     return 0
+
+def hold_or_write(crate, made, words, usage):
+    """What a script does with the files of a crate that made() computes: without a word it compares, with --write it writes."""
+    if words not in ([], ['--write']):
+        print('usage:', usage, file=sys.stderr)
+        return 2
+    return (write if words else hold)(folder(crate), made())

@@ -1,10 +1,10 @@
 #!/usr/bin/env python3
 """The files of the program incident, and what it is to write.
 
-usage: incident.py [--check]
+usage: incident.py [--write]
 
-Without a word it writes crates/incident/data/*.tif and crates/incident/stdout, the same bytes at every run. --check writes
-nothing, compares them with what is there, and exits with 1 where something differs.
+Without a word it computes crates/incident/data/*.tif and crates/incident/stdout, the same bytes at every run, compares them with
+what is there, writes nothing, and exits with 1 where something differs. --write writes them.
 
 data/camera.tif is a copy of libtiff's c01_640x480_ring_l.tif, as a program is run with its own crate's files alone. Its pixels are
 libtiff's: the script stops where those of its model have another CRC-32 than libtiff's report says. It stops as well where the lost
@@ -15,7 +15,7 @@ import sys
 import zlib
 
 sys.dont_write_bytecode = True  # no folder of compiled modules beside the scripts
-from common import folder, hold, write
+from common import hold_or_write
 from front import STRIPS, Limits, Reading, but, picture
 from leaf import literal, run
 from libtiff import CAMERA, file_of, vouched
@@ -88,4 +88,4 @@ def made():
     return {'data/camera.tif': camera, 'data/previous.tif': before, 'stdout': text.encode()}
 
 if __name__ == '__main__':
-    sys.exit((hold if sys.argv[1:] == ['--check'] else write)(folder('incident'), made()))
+    sys.exit(hold_or_write('incident', made, sys.argv[1:], 'incident.py [--write]'))

@@ -1,12 +1,12 @@
 #!/usr/bin/env python3
 """The vectors of the program vectors, and what it is to write.
 
-usage: vectors.py [--check | --wrong]
+usage: vectors.py [--wrong | --write]
 
-Without a word it writes crates/vectors/data/GROUP/*.bin and crates/vectors/stdout, the same bytes at every
-run. --check writes nothing and compares them with what is there; --wrong puts one mistake after another into
-the models of the groups and names those that no vector of the group would notice. Both exit with 1 where
-something is amiss.
+Without a word it computes crates/vectors/data/GROUP/*.bin and crates/vectors/stdout, the same bytes at every
+run, compares them with what is there, and writes nothing. --wrong puts one mistake after another into the
+models of the groups and names those that no vector of the group would notice. Both exit with 1 where something
+is amiss. --write writes the files.
 
 Each group's script has its records, and a model that says what is to come of them; libtiff's pictures are
 given, and libtiff vouches for their pixels.
@@ -19,7 +19,7 @@ import leaf
 import patchy
 import pictures
 import strict
-from common import FILE, folder, hold, unnoticed, write
+from common import FILE, hold_or_write, unnoticed
 
 GROUPS = leaf, front, strict, patchy    # in the order in which the program runs them
 
@@ -36,7 +36,7 @@ def made(group):
     return written, lines
 
 def all_made():
-    """Every file that this script writes."""
+    """Every file that is computed here."""
     written, lines = {}, []
     for group in GROUPS:
         files, said = made(group)
@@ -56,15 +56,7 @@ def try_mistakes():
         bad += len(missed)
     return 1 if bad else 0
 
-def main(words):
-    if words == ['--wrong']:
-        return try_mistakes()
-    written = all_made()
-    if words == ['--check']:
-        return hold(folder('vectors'), written)
-    for name, body in written.items():
-        print('%-28s %6d bytes' % (name, len(body)))
-    return write(folder('vectors'), written)
-
 if __name__ == '__main__':
-    sys.exit(main(sys.argv[1:]))
+    if sys.argv[1:] == ['--wrong']:
+        sys.exit(try_mistakes())
+    sys.exit(hold_or_write('vectors', all_made, sys.argv[1:], 'vectors.py [--wrong | --write]'))
