@@ -1,5 +1,5 @@
 # What people run here. `make` alone says what there is.
-.PHONY: help demo strips strips-test test vectors vectors-write format lib readme compare faults bench worst rust
+.PHONY: help demo strips strips-test test vectors vectors-write format lib readme face compare faults bench worst rust
 
 help:
 	@echo "make demo         the camera's picture without one block: what came of each strip; the grey picture goes to target/demo.pgm"
@@ -10,6 +10,7 @@ help:
 	@echo 'make vectors-write  write them instead (needs python3)'
 	@echo 'make lib          prove the library and build it for C and Rust'
 	@echo "make readme       compile and run README's example in C (needs gcc)"
+	@echo 'make face         compile the header as C and C++, call each of its functions, compare versions (needs gcc, g++)'
 	@echo 'make rust         build, test and run the Rust binding (needs cargo)'
 	@echo 'make compare      compare with libtiff on COUNT=5000 random pictures from SEED=1 (a minute; needs gcc, libtiff-dev)'
 	@echo 'make faults       make mistakes between compare and the library: it must notice each'
@@ -60,6 +61,10 @@ CAMERA = crates/strips/data/camera.tif
 readme:
 	@tools/need gcc
 	@archive=$$(tools/archive) && tests/c/readme.sh README.md "$$archive" $(CAMERA)
+
+face:
+	@tools/need gcc g++
+	@archive=$$(tools/archive) && tests/c/face.sh "$$archive"
 
 # $(call build,PROGRAM,SOURCES)
 build = archive=$$(tools/archive) && $(CC) $(CFLAGS) -o target/$(1) $(addprefix tests/c/,$(2)) tests/c/pictures.c "$$archive" -ltiff $(LDFLAGS)

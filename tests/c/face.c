@@ -1,0 +1,459 @@
+/* Calls each function of the header with arguments that differ from each other, and compares all that it answers and leaves
+ * with numbers worked out by hand. So a prototype that does not fit the archive is noticed: an argument at another place, of
+ * another width, or left out. It is C and C++ at once; tests/c/face.sh compiles it as both.
+ *
+ * The picture is two pixels wide, each strip of one row has the packets of rule 10.1. Its directory follows itself, so that
+ * it is every page; strip 1, where there is one, begins with block 1. */
+#include "chelmesut.h"
+#include <stdio.h>
+#include <stdlib.h>
+#include <string.h>
+
+enum {
+    WAS = 0xa5,
+    GUARD = 8,
+    ENTRIES = 10,
+    DIRECTORY = ENTRIES + 1,
+    PROFILE = 128,
+    FEE = 49,
+    FRONT = 4 * DIRECTORY + PROFILE
+};
+enum { OUTPUT = 12, SCRATCH = 20 }; /* of a picture of one strip */
+enum { PAGE = 3, MOST_FILE = CHELMESUT_BLOCK + 8 };
+
+static const uint8_t packets[8] = {0x80, 0x07, 0x80, 0x01, 0x80, 0x02, 0x80, 0x03};
+static const uint8_t pixels[OUTPUT] = {0x01, 0x07, 0xc7, 0x00, 0x17, 0x01, 0x01, 0x07, 0xc7, 0x00, 0x17, 0x01};
+
+static unsigned long compared;
+
+static void same(const char *what, uint64_t is, uint64_t expected)
+{
+    compared++;
+    if (is == expected)
+        return;
+    printf("face: %s is %llu, expected %llu\n", what, (unsigned long long)is, (unsigned long long)expected);
+    exit(1);
+}
+
+static void same_bytes(const char *what, const uint8_t *are, const uint8_t *expected, size_t length)
+{
+    for (size_t i = 0; i < length; i++) {
+        compared++;
+        if (are[i] != expected[i]) {
+            printf("face: byte %u of %s is %u, expected %u\n", (unsigned)i, what, are[i], expected[i]);
+            exit(1);
+        }
+    }
+}
+
+static void all_are(const char *what, const uint8_t *are, size_t from, size_t to, uint8_t expected)
+{
+    for (size_t i = from; i < to; i++)
+        same_bytes(what, are + i, &expected, 1);
+}
+
+/* ---- the file */
+
+struct file {
+    uint8_t bytes[MOST_FILE];
+    size_t length;
+};
+
+static void put(struct file *file, uint32_t value, size_t size)
+{
+    for (size_t i = 0; i < size; i++)
+        file->bytes[file->length++] = (uint8_t)(value >> (8 * i));
+}
+
+static void put_entry(struct file *file, uint32_t tag, uint32_t type, uint32_t count, uint32_t value)
+{
+    put(file, tag, 2);
+    put(file, type, 2);
+    put(file, count, 4);
+    put(file, value, 4);
+}
+
+enum { BEHIND_DIRECTORY = 8 + 2 + 12 * ENTRIES + 4, DEPTHS = BEHIND_DIRECTORY, KINDS = DEPTHS + 6 };
+enum { STORED_BYTES = 8, OFFSETS = KINDS + 6, COUNTS = OFFSETS + 8, STORED = COUNTS + 8, ONE_STRIP = STORED + STORED_BYTES };
+
+/* With one strip its offset and count are in the entries. */
+static void make_file(struct file *file, uint32_t strips)
+{
+    memset(file, 0, sizeof *file);
+    put(file, 0x002a4949, 4);
+    put(file, 8, 4);
+    put(file, ENTRIES, 2);
+    put_entry(file, 256, 3, 1, 2);
+    put_entry(file, 257, 3, 1, strips);
+    put_entry(file, 258, 3, 3, DEPTHS);
+    put_entry(file, 259, 3, 1, 34676);
+    put_entry(file, 262, 3, 1, 32845);
+    put_entry(file, 273, 4, strips, strips == 1 ? STORED : OFFSETS);
+    put_entry(file, 277, 3, 1, 3);
+    put_entry(file, 278, 3, 1, 1);
+    put_entry(file, 279, 4, strips, strips == 1 ? STORED_BYTES : COUNTS);
+    put_entry(file, 339, 3, 3, KINDS);
+    put(file, 8, 4);
+    for (int i = 0; i < 3; i++)
+        put(file, 16, 2);
+    for (int i = 0; i < 3; i++)
+        put(file, 2, 2);
+    put(file, STORED, 4);
+    put(file, CHELMESUT_BLOCK, 4);
+    put(file, STORED_BYTES, 4);
+    put(file, STORED_BYTES, 4);
+    memcpy(file->bytes + STORED, packets, sizeof packets);
+    file->length = ONE_STRIP;
+    if (strips == 2) {
+        memcpy(file->bytes + CHELMESUT_BLOCK, packets, sizeof packets);
+        file->length = MOST_FILE;
+    }
+}
+
+/* ---- names */
+
+static void names(void)
+{
+    char version[32];
+    static const int refusals[] = {
+        CHELMESUT_OK,          CHELMESUT_TRUNCATED,      CHELMESUT_INVALID,          CHELMESUT_UNSUPPORTED,
+        CHELMESUT_LIMIT,       CHELMESUT_PAGE_NOT_FOUND, CHELMESUT_OUTPUT_TOO_SMALL, CHELMESUT_BUDGET,
+        CHELMESUT_NOT_ARRIVED, CHELMESUT_MAP_SIZE};
+    static const int qualities[] = {CHELMESUT_QUALITY_UNREAD, CHELMESUT_QUALITY_GOOD, CHELMESUT_QUALITY_MISSING,
+                                    CHELMESUT_QUALITY_OUTSIDE, CHELMESUT_QUALITY_REJECTED};
+    for (int i = 0; i < 10; i++)
+        same("a refusal", (uint64_t)refusals[i], (uint64_t)i);
+    for (int i = 0; i < 5; i++)
+        same("a quality", (uint64_t)qualities[i], (uint64_t)i);
+    same("the words of a handle", CHELMESUT_HANDLE_WORDS, 17);
+    same("the words of an answer", CHELMESUT_ANSWER_WORDS, 5);
+    same("a block", CHELMESUT_BLOCK, 512);
+    snprintf(version, sizeof version, "%d.%d.%d", CHELMESUT_VERSION_MAJOR, CHELMESUT_VERSION_MINOR, CHELMESUT_VERSION_PATCH);
+    same("whether the version is that of its three numbers", strcmp(version, CHELMESUT_VERSION) == 0, 1);
+}
+
+/* ---- strict reading */
+
+/* The least limits under which page 3 of the one strip is read: no two are equal. */
+enum { LIMITS = 6 };
+static const uint64_t least[LIMITS] = {ONE_STRIP, SCRATCH, 2, 4, ENTRIES, 1};
+
+static uint64_t inspect(const struct file *file, size_t length, uint64_t page, const uint64_t *limit, uint64_t *budget,
+                        uint64_t *handle)
+{
+    for (int i = 0; i < CHELMESUT_HANDLE_WORDS + GUARD; i++)
+        handle[i] = 0xfeed + (uint64_t)i;
+    return chelmesut_inspect(file->bytes, length, page, limit[0], limit[1], limit[2], limit[3], limit[4], limit[5], budget,
+                             handle);
+}
+
+static void inspect_refused(const char *what, const struct file *file, size_t length, uint64_t page, const uint64_t *limit,
+                            uint64_t budget, uint64_t number, uint64_t charged)
+{
+    uint64_t handle[CHELMESUT_HANDLE_WORDS + GUARD], left = budget;
+    same(what, inspect(file, length, page, limit, &left, handle), number);
+    same("what inspection leaves", left, budget - charged);
+    for (int i = 0; i < CHELMESUT_HANDLE_WORDS + GUARD; i++)
+        same("a word of a handle after a refusal", handle[i], 0xfeed + (uint64_t)i);
+}
+
+static void inspection(void)
+{
+    /* Two limits stand before all else; the others are met behind the directories, or behind the profile's charge. */
+    static const uint64_t numbers[LIMITS] = {CHELMESUT_LIMIT, CHELMESUT_LIMIT, CHELMESUT_UNSUPPORTED,
+                                             CHELMESUT_LIMIT, CHELMESUT_LIMIT, CHELMESUT_LIMIT};
+    static const uint64_t charged[LIMITS] = {0, FRONT, FRONT, 0, 0, FRONT};
+    static const uint64_t expected[CHELMESUT_HANDLE_WORDS] = {2, 1, 3,      16,      16,  1, 34676, PAGE, ENTRIES,
+                                                              0, 0, OUTPUT, SCRATCH, FEE, 2, 1,     1};
+    uint64_t handle[CHELMESUT_HANDLE_WORDS + GUARD], budget = 1000, limit[LIMITS];
+    struct file file, other;
+    make_file(&file, 1);
+    same("inspection", inspect(&file, file.length, PAGE, least, &budget, handle), CHELMESUT_OK);
+    same("what inspection leaves", budget, 1000 - FRONT - FEE);
+    for (int i = 0; i < CHELMESUT_HANDLE_WORDS + GUARD; i++)
+        same("a word of a handle", handle[i], i < CHELMESUT_HANDLE_WORDS ? expected[i] : 0xfeed + (uint64_t)i);
+    for (int i = 0; i < LIMITS; i++) {
+        memcpy(limit, least, sizeof limit);
+        limit[i]--;
+        inspect_refused("inspection with one limit lower", &file, file.length, PAGE, limit, 1000, numbers[i], charged[i]);
+    }
+    inspect_refused("inspection of the page after the last allowed", &file, file.length, PAGE + 1, least, 1000,
+                    CHELMESUT_LIMIT, 0);
+    inspect_refused("inspection of a short file", &file, file.length - 1, PAGE, least, 1000, CHELMESUT_TRUNCATED, FRONT);
+    inspect_refused("inspection with a unit too few", &file, file.length, PAGE, least, FRONT + FEE - 1, CHELMESUT_BUDGET,
+                    FRONT);
+    other = file;
+    other.bytes[STORED] = 0x83;
+    inspect_refused("inspection of a long run", &other, file.length, PAGE, least, 1000, CHELMESUT_INVALID, FRONT + FEE);
+    other = file;
+    memset(other.bytes + BEHIND_DIRECTORY - 4, 0, 4);
+    inspect_refused("inspection without a page", &other, file.length, PAGE, least, 1000, CHELMESUT_PAGE_NOT_FOUND,
+                    DIRECTORY);
+}
+
+/* Buffers with bytes behind what is lent, which are never to change. */
+struct lent {
+    uint8_t output[2 * OUTPUT + GUARD], scratch[SCRATCH + GUARD], quality[4 + GUARD];
+};
+
+static void fill(struct lent *lent)
+{
+    memset(lent, WAS, sizeof *lent);
+}
+
+/* The length of the file is not among these. */
+static const uint64_t decode_limits[LIMITS] = {ONE_STRIP + 1, SCRATCH, 2, 4, ENTRIES, 1};
+
+static void decode(const char *what, uint64_t page, uint64_t forgery, size_t output, size_t scratch, uint64_t budget,
+                   uint64_t number)
+{
+    struct file file;
+    struct lent lent;
+    uint64_t handle[CHELMESUT_HANDLE_WORDS + GUARD], words[CHELMESUT_HANDLE_WORDS + GUARD], left = 1000;
+    const uint64_t *limit = decode_limits;
+    make_file(&file, 1);
+    fill(&lent);
+    same("inspection", inspect(&file, file.length, PAGE, limit, &left, handle), CHELMESUT_OK);
+    handle[CHELMESUT_HANDLE_WORDS - 1] += forgery;
+    memcpy(words, handle, sizeof words);
+    left = budget;
+    same(what,
+         chelmesut_decode(file.bytes, file.length, page, limit[0], limit[1], limit[2], limit[3], limit[4], limit[5], handle,
+                          &left, lent.output, output, lent.scratch, scratch),
+         number);
+    same("what decode leaves", left, number == CHELMESUT_OK ? budget - FEE : budget);
+    same("whether the handle is as it was", memcmp(words, handle, sizeof words) == 0, 1);
+    if (number == CHELMESUT_OK) {
+        same_bytes("output", lent.output, pixels, OUTPUT);
+        all_are("scratch", lent.scratch, 0, SCRATCH, 0);
+    }
+    all_are("output that stays", lent.output, number == CHELMESUT_OK ? OUTPUT : 0, sizeof lent.output, WAS);
+    all_are("scratch that stays", lent.scratch, number == CHELMESUT_OK ? SCRATCH : 0, sizeof lent.scratch, WAS);
+}
+
+static void decoding(void)
+{
+    decode("decode", PAGE, 0, OUTPUT, SCRATCH, FEE, CHELMESUT_OK);
+    decode("decode with longer buffers", PAGE, 0, OUTPUT + 1, SCRATCH + 2, FEE + 3, CHELMESUT_OK);
+    decode("decode of another page", PAGE - 1, 0, OUTPUT, SCRATCH, FEE, CHELMESUT_INVALID);
+    decode("decode of a forged handle", PAGE, 1, OUTPUT, SCRATCH, FEE, CHELMESUT_INVALID);
+    decode("decode with short output", PAGE, 0, OUTPUT - 1, SCRATCH, FEE, CHELMESUT_OUTPUT_TOO_SMALL);
+    decode("decode with short scratch", PAGE, 0, OUTPUT, SCRATCH - 1, FEE, CHELMESUT_OUTPUT_TOO_SMALL);
+    decode("decode with a unit too few", PAGE, 0, OUTPUT, SCRATCH, FEE - 1, CHELMESUT_BUDGET);
+}
+
+/* ---- patchy reading, of two strips in two blocks */
+
+/* The least limits, but that max_dimension is one above the sides, so that no two are equal. */
+static const uint64_t patchy_least[LIMITS] = {MOST_FILE, 2 * OUTPUT, 3, 4, ENTRIES, 2};
+
+struct trial {
+    const char *what;
+    struct file file;
+    size_t length, map_length, output, scratch, quality;
+    uint8_t map[3];
+    uint64_t limit[LIMITS], budget;
+};
+
+static struct trial whole(const char *what)
+{
+    struct trial t;
+    memset(&t, 0, sizeof t);
+    t.what = what;
+    make_file(&t.file, 2);
+    t.length = t.file.length;
+    t.map_length = 2;
+    t.output = 2 * OUTPUT;
+    t.scratch = SCRATCH;
+    t.quality = 4;
+    t.map[0] = t.map[1] = 1;
+    memcpy(t.limit, patchy_least, sizeof t.limit);
+    t.budget = 1000;
+    return t;
+}
+
+/* The two strips get these codes; or, with a number that is not 0, the call is refused. */
+static void read_patchy(const struct trial *t, uint64_t number, uint64_t charged, uint8_t first, uint8_t second)
+{
+    static const uint64_t expected[CHELMESUT_ANSWER_WORDS] = {2, 2, 2, 1, 2};
+    const uint64_t *limit = t->limit;
+    const uint8_t codes[2] = {first, second}, blank[OUTPUT] = {0};
+    uint64_t answer[CHELMESUT_ANSWER_WORDS + GUARD], left = t->budget;
+    struct lent lent;
+    bool read = number == CHELMESUT_OK;
+    fill(&lent);
+    for (int i = 0; i < CHELMESUT_ANSWER_WORDS + GUARD; i++)
+        answer[i] = 0xfeed + (uint64_t)i;
+    same(t->what,
+         chelmesut_read_patchy(t->file.bytes, t->length, t->map, t->map_length, PAGE, limit[0], limit[1], limit[2], limit[3],
+                               limit[4], limit[5], &left, lent.output, t->output, lent.scratch, t->scratch, lent.quality,
+                               t->quality, answer),
+         number);
+    same("what patchy reading leaves", left, t->budget - charged);
+    for (int i = 0; i < CHELMESUT_ANSWER_WORDS + GUARD; i++)
+        same("a word of an answer", answer[i], read && i < CHELMESUT_ANSWER_WORDS ? expected[i] : 0xfeed + (uint64_t)i);
+    for (int k = 0; read && k < 2; k++)
+        same_bytes("a strip", lent.output + k * OUTPUT, codes[k] == CHELMESUT_QUALITY_GOOD ? pixels : blank, OUTPUT);
+    all_are("output that stays", lent.output, read ? 2 * OUTPUT : 0, sizeof lent.output, WAS);
+    all_are("scratch", lent.scratch, 0, read ? SCRATCH : 0, 0);
+    all_are("scratch that stays", lent.scratch, read ? SCRATCH : 0, sizeof lent.scratch, WAS);
+    same_bytes("quality", lent.quality, codes, read ? 2 : 0);
+    all_are("quality without a segment", lent.quality, read ? 2 : 0, t->quality, CHELMESUT_QUALITY_UNREAD);
+    all_are("quality that stays", lent.quality, t->quality, sizeof lent.quality, WAS);
+}
+
+static void read_strips(void)
+{
+    const uint8_t good = CHELMESUT_QUALITY_GOOD, missing = CHELMESUT_QUALITY_MISSING;
+    struct trial t = whole("patchy reading, all came");
+    read_patchy(&t, CHELMESUT_OK, FRONT + 2 * FEE, good, good);
+    t = whole("patchy reading without a map");
+    t.map_length = 0;
+    read_patchy(&t, CHELMESUT_OK, FRONT + 2 * FEE, good, good);
+    t = whole("patchy reading, block 1 lost");
+    t.map[1] = 0;
+    read_patchy(&t, CHELMESUT_OK, FRONT + FEE + 1, good, missing);
+    t.map[1] = 2;
+    memset(t.file.bytes + CHELMESUT_BLOCK, 0xff, sizeof packets);
+    read_patchy(&t, CHELMESUT_OK, FRONT + FEE + 1, good, missing);
+    t = whole("patchy reading of a short file");
+    t.length--;
+    read_patchy(&t, CHELMESUT_OK, FRONT + FEE + 1, good, CHELMESUT_QUALITY_OUTSIDE);
+    t = whole("patchy reading of a long run");
+    t.file.bytes[STORED] = 0x83;
+    read_patchy(&t, CHELMESUT_OK, FRONT + 2 * FEE, CHELMESUT_QUALITY_REJECTED, good);
+}
+
+static void refuse_strips(void)
+{
+    static const uint64_t numbers[LIMITS] = {CHELMESUT_LIMIT, CHELMESUT_LIMIT, CHELMESUT_UNSUPPORTED,
+                                             CHELMESUT_LIMIT, CHELMESUT_LIMIT, CHELMESUT_LIMIT};
+    static const uint64_t charged[LIMITS] = {0, FRONT, FRONT, 0, 0, FRONT};
+    struct trial t;
+    for (int i = 0; i < LIMITS; i++) {
+        t = whole("patchy reading with one limit lower");
+        t.limit[i] -= i == 2 ? 2 : 1; /* max_dimension */
+        read_patchy(&t, numbers[i], charged[i], 0, 0);
+    }
+    t = whole("patchy reading with a long map");
+    t.map_length = 3;
+    read_patchy(&t, CHELMESUT_MAP_SIZE, 0, 0, 0);
+    t = whole("patchy reading, block 0 lost");
+    t.map[0] = 0;
+    read_patchy(&t, CHELMESUT_NOT_ARRIVED, 0, 0, 0);
+    t = whole("patchy reading with short output");
+    t.output--;
+    read_patchy(&t, CHELMESUT_OUTPUT_TOO_SMALL, FRONT, 0, 0);
+    t = whole("patchy reading with short scratch");
+    t.scratch--;
+    read_patchy(&t, CHELMESUT_OUTPUT_TOO_SMALL, FRONT, 0, 0);
+    t = whole("patchy reading with short quality");
+    t.quality = 1;
+    read_patchy(&t, CHELMESUT_OUTPUT_TOO_SMALL, FRONT, 0, 0);
+    t = whole("patchy reading with a unit too few");
+    t.budget = FRONT + 2 * FEE - 1;
+    read_patchy(&t, CHELMESUT_BUDGET, FRONT, 0, 0);
+}
+
+/* ---- the bound, in which max_dimension and max_directories have no part, and page and max_tags the same */
+
+static void work_limit(void)
+{
+    uint64_t limit[2] = {0xfeed, 0xfeed};
+    same("the number of the work limit", chelmesut_work_limit(2, 1000, 300, 77, 55, 10, 13, limit), CHELMESUT_OK);
+    same("the work limit", limit[0], 3 * 11 + 128 + 13 * (1000 + 2 * 300 + 1));
+    limit[0] = 0xfeed;
+    same("the number of the work limit", chelmesut_work_limit(2, UINT64_MAX, 300, 77, 55, 10, 1, limit), CHELMESUT_LIMIT);
+    same("the work limit after a refusal", limit[0], 0xfeed);
+    same("the word behind the work limit", limit[1], 0xfeed);
+}
+
+/* ---- predictors */
+
+enum { SAMPLES = 6 };
+
+static void put_samples(uint8_t *bytes, const uint64_t *samples, size_t count, bool little_endian)
+{
+    for (size_t i = 0; i < 8 * count; i++)
+        bytes[i] = (uint8_t)(samples[i / 8] >> (8 * (little_endian ? i % 8 : 7 - i % 8)));
+}
+
+static void predict64(const char *what, const uint64_t *raw, size_t raw_length, uint64_t width, uint64_t height,
+                      uint64_t channels, uint64_t reset_width, bool little_endian, bool predict, size_t output_length,
+                      uint64_t number, const uint64_t *expected)
+{
+    uint8_t input[8 * SAMPLES], output[8 * SAMPLES + GUARD], bytes[8 * SAMPLES];
+    size_t written = number == CHELMESUT_OK ? (size_t)(8 * width * height * channels) : 0;
+    memset(output, WAS, sizeof output);
+    put_samples(input, raw, raw_length / 8, little_endian);
+    put_samples(bytes, expected, written / 8, true);
+    same(what,
+         chelmesut_predictor64(input, raw_length, width, height, channels, reset_width, little_endian, predict, output,
+                               output_length),
+         number);
+    same_bytes(what, output, bytes, written);
+    all_are("output that stays", output, written, sizeof output, WAS);
+}
+
+static void predictor64(void)
+{
+    static const uint64_t wraps[] = {UINT64_MAX, 2}, wrapped[] = {UINT64_MAX, 1};
+    static const uint64_t raw[] = {1, 2, 3, 4, 5, 6}, rows[] = {1, 3, 3, 4, 9, 6}, pixel_pairs[] = {1, 2, 4, 6, 5, 6};
+    predict64("predictor 64 that wraps", wraps, 16, 2, 1, 1, 2, true, true, 16, CHELMESUT_OK, wrapped);
+    predict64("predictor 64, 3 by 2", raw, 48, 3, 2, 1, 2, false, true, 48, CHELMESUT_OK, rows);
+    predict64("predictor 64, 3 by 1, two channels", raw, 48, 3, 1, 2, 2, true, true, 49, CHELMESUT_OK, pixel_pairs);
+    predict64("predictor 64 that copies", raw, 48, 3, 2, 1, 2, false, false, 48, CHELMESUT_OK, raw);
+    predict64("predictor 64, five channels", raw, 48, 3, 2, 5, 2, true, true, 48, CHELMESUT_UNSUPPORTED, raw);
+    predict64("predictor 64, no columns", raw, 48, 0, 2, 1, 2, true, true, 48, CHELMESUT_INVALID, raw);
+    predict64("predictor 64, too large", raw, 48, UINT64_MAX, 2, 1, 2, true, true, 48, CHELMESUT_LIMIT, raw);
+    predict64("predictor 64, short input", raw, 40, 3, 2, 1, 2, true, true, 48, CHELMESUT_TRUNCATED, raw);
+    predict64("predictor 64, short output", raw, 48, 3, 2, 1, 2, true, true, 47, CHELMESUT_OUTPUT_TOO_SMALL, raw);
+}
+
+enum { BYTES = 24 };
+
+static void predict3(const char *what, size_t raw_length, uint64_t row, uint64_t channels, uint64_t sample_bytes,
+                     bool little_endian, size_t scratch_length, size_t output_length, uint64_t number, const uint8_t *summed,
+                     const uint8_t *gathered)
+{
+    uint8_t raw[BYTES], scratch[BYTES + GUARD], output[BYTES + GUARD];
+    size_t written = number == CHELMESUT_OK ? raw_length : 0;
+    memset(raw, 1, sizeof raw);
+    memset(scratch, WAS, sizeof scratch);
+    memset(output, WAS, sizeof output);
+    same(what,
+         chelmesut_predictor3(raw, raw_length, row, channels, sample_bytes, little_endian, scratch, scratch_length, output,
+                              output_length),
+         number);
+    same_bytes("the sums of predictor 3", scratch, summed, written);
+    same_bytes("what predictor 3 gathers", output, gathered, written);
+    all_are("scratch that stays", scratch, written, sizeof scratch, WAS);
+    all_are("output that stays", output, written, sizeof output, WAS);
+}
+
+static void predictor3(void)
+{
+    static const uint8_t sums[] = {1, 2, 3, 4}, little[] = {3, 1, 4, 2};
+    static const uint8_t pairs[BYTES] = {1, 1, 2, 2, 3, 3, 4, 4, 5, 5, 6, 6, 1, 1, 2, 2, 3, 3, 4, 4, 5, 5, 6, 6};
+    static const uint8_t big[BYTES] = {1, 3, 5, 1, 3, 5, 2, 4, 6, 2, 4, 6, 1, 3, 5, 1, 3, 5, 2, 4, 6, 2, 4, 6};
+    predict3("predictor 3", 4, 4, 1, 2, true, 4, 4, CHELMESUT_OK, sums, little);
+    predict3("predictor 3, two rows, two channels of three bytes", 24, 12, 2, 3, false, 25, 26, CHELMESUT_OK, pairs, big);
+    predict3("predictor 3, samples of five bytes", 4, 4, 1, 5, true, 4, 4, CHELMESUT_UNSUPPORTED, sums, little);
+    predict3("predictor 3, a row that is no multiple", 4, 3, 1, 2, true, 4, 4, CHELMESUT_INVALID, sums, little);
+    predict3("predictor 3, short scratch", 4, 4, 1, 2, true, 3, 4, CHELMESUT_OUTPUT_TOO_SMALL, sums, little);
+    predict3("predictor 3, short output", 4, 4, 1, 2, true, 4, 3, CHELMESUT_OUTPUT_TOO_SMALL, sums, little);
+}
+
+int main(void)
+{
+    names();
+    inspection();
+    decoding();
+    read_strips();
+    refuse_strips();
+    work_limit();
+    predictor64();
+    predictor3();
+    printf("face: every call answers and leaves what it should; %lu numbers and bytes compared\n", compared);
+    return 0;
+}
