@@ -1,5 +1,5 @@
 # What people run here. `make` alone says what there is.
-.PHONY: help demo strips strips-test test vectors vectors-write format lib readme face compare faults bench worst rust
+.PHONY: help demo strips strips-test test vectors vectors-write format lib install uninstall install-test readme face compare faults bench worst rust
 
 help:
 	@echo "make demo         the camera's picture without one block: what came of each strip; the grey picture goes to target/demo.pgm"
@@ -9,6 +9,9 @@ help:
 	@echo 'make vectors      compute the expected answers of the vectors anew, compare, and try mistakes against them (needs python3)'
 	@echo 'make vectors-write  write them instead (needs python3)'
 	@echo 'make lib          prove the library and build it for C and Rust'
+	@echo 'make install      install header, library and a pkg-config file under PREFIX=/usr/local, in DESTDIR= if it is given'
+	@echo 'make uninstall    take them away again'
+	@echo 'make install-test  install under target/, compile an example with what is there, and uninstall (needs gcc, pkg-config)'
 	@echo "make readme       compile and run README's example in C (needs gcc)"
 	@echo 'make face         compile the header as C and C++, call each of its functions, compare versions (needs gcc, g++)'
 	@echo 'make rust         build, test and run the Rust binding (needs cargo)'
@@ -51,6 +54,19 @@ lib:
 	@echo 'for programs of x86-64 Linux: target/staticlib/libchelmesut.a'
 	@echo 'the header: include/chelmesut.h'
 
+PREFIX = /usr/local
+DESTDIR =
+
+install:
+	@tools/install '$(PREFIX)' '$(DESTDIR)'
+
+uninstall:
+	@tools/install -u '$(PREFIX)' '$(DESTDIR)'
+
+install-test:
+	@tools/need gcc pkg-config
+	@tests/c/installed.sh README.md $(CAMERA)
+
 # What follows are programs in C and Rust that are linked with the library for this machine.
 CC = gcc
 CFLAGS = -std=c11 -O2 -Wall -Wextra
@@ -60,7 +76,7 @@ CAMERA = crates/strips/data/camera.tif
 
 readme:
 	@tools/need gcc
-	@archive=$$(tools/archive) && tests/c/readme.sh README.md "$$archive" $(CAMERA)
+	@archive=$$(tools/archive) && tests/c/readme.sh README.md $(CAMERA) -Iinclude "$$archive"
 
 face:
 	@tools/need gcc g++
