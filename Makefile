@@ -1,25 +1,31 @@
 # What people run here. `make` alone says what there is.
-.PHONY: help demo strips strips-test test vectors vectors-write format lib install uninstall install-test readme face compare faults bench worst rust
+.PHONY: help demo strips strips-test test more vectors vectors-write format lib install uninstall install-test
+.PHONY: readme face rust compare faults bench worst
+# Targets share the library and target/; rt and cargo use all processors by themselves.
+.NOTPARALLEL:
 
 help:
-	@echo "make demo         the camera's picture without one block: what came of each strip; the grey picture goes to target/demo.pgm"
-	@echo 'make strips       prove and build the program bin/strips, which reports what came of a picture'
-	@echo 'make strips-test  run it on whole, patchy and broken pictures, and compare what it prints'
-	@echo 'make test         prove every crate from nothing, try every must-fail edit, run every program: the gate'
-	@echo 'make vectors      compute the expected answers of the vectors anew, compare, and try mistakes against them (needs python3)'
+	@echo "make demo           the camera's picture without one block: what came of each strip; the grey picture goes to target/demo.pgm"
+	@echo 'make strips         prove and build the program bin/strips, which reports what came of a picture'
+	@echo 'make strips-test    run it on whole, patchy and broken pictures, and compare what it prints'
+	@echo 'make test           prove every crate from nothing, try every must-fail edit, run every program: the gate'
+	@echo 'make more           what the gate does not run: every other test of this list, without the two measurements at its end (some minutes)'
+	@echo 'make vectors        compute the expected answers of the vectors anew, compare, and try mistakes against them (needs python3)'
 	@echo 'make vectors-write  write them instead (needs python3)'
-	@echo 'make lib          prove the library and build it for C and Rust'
-	@echo 'make install      install header, library and a pkg-config file under PREFIX=/usr/local, in DESTDIR= if it is given'
-	@echo 'make uninstall    take them away again'
-	@echo 'make install-test  install under target/, compile an example with what is there, and uninstall (needs gcc, pkg-config)'
-	@echo "make readme       compile and run README's example in C (needs gcc)"
-	@echo 'make face         compile the header as C and C++, call each of its functions, compare versions (needs gcc, g++)'
-	@echo 'make rust         build, test and run the Rust binding (needs cargo)'
-	@echo 'make compare      compare with libtiff on COUNT=5000 random pictures from SEED=1 (a minute; needs gcc, libtiff-dev)'
-	@echo 'make faults       make mistakes between compare and the library: it must notice each'
-	@echo 'make bench        time the library beside libtiff (needs gcc, libtiff-dev)'
-	@echo 'make worst        instructions for each unit charged, and the deepest stack (needs gcc, libtiff-dev, valgrind)'
-	@echo 'make format       lay out every source and proof file'
+	@echo 'make format         lay out every source and proof file'
+	@echo 'make lib            prove the library and build it for C, C++ and Rust'
+	@echo 'make install        install header, library and a pkg-config file under PREFIX=/usr/local, in DESTDIR= if it is given'
+	@echo 'make uninstall      take them away again'
+	@echo 'make install-test   install under target/, compile an example with what is there, and uninstall (needs gcc, pkg-config)'
+	@echo "make readme         compile and run README's example in C (needs gcc)"
+	@echo 'make face           compile the header as C and C++, call each of its functions, compare versions (needs gcc, g++)'
+	@echo 'make rust           build, test and run the Rust binding (needs cargo)'
+	@echo 'make compare        compare with libtiff on COUNT=5000 random pictures from SEED=1 (a minute; needs gcc, libtiff-dev)'
+	@echo 'make faults         make mistakes between compare and the library: it must notice each (needs gcc, libtiff-dev)'
+	@echo 'make bench          time the library beside libtiff (needs gcc, libtiff-dev)'
+	@echo 'make worst          instructions for each unit charged, and the deepest stack (needs gcc, libtiff-dev, valgrind)'
+	@echo
+	@echo 'What a command needs is named where it is missing; with INSTALL=1 behind it, it is installed (on Debian, as root).'
 
 strips:
 	rt check strips
@@ -34,6 +40,9 @@ strips-test: strips
 
 test:
 	@.ci/run
+
+# The gate needs the kit alone; these need more. Not here are bench and worst, which measure.
+more: vectors lib demo strips-test png readme face install-test rust compare faults
 
 vectors:
 	@tools/need python3
