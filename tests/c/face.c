@@ -1,13 +1,34 @@
 /* Calls each function of the header with arguments that differ from each other, and compares all that it answers and leaves
- * with numbers worked out by hand. So a prototype that does not fit the archive is noticed: an argument at another place, of
- * another width, or left out. It is C and C++ at once; tests/c/face.sh compiles it as both.
+ * with numbers worked out by hand: an argument at another place than the archive has it changes an answer. That the types are
+ * those of the archive, 64 bits wide, is written out below a second time, and numbers above 2^32 are passed. It is C and C++
+ * at once; tests/c/face.sh compiles it as both.
  *
- * The picture is two pixels wide, each strip of one row has the packets of rule 10.1. Its directory follows itself, so that
- * it is every page; strip 1, where there is one, begins with block 1. */
+ * The picture is two pixels wide, each strip of one row has the packets of rule 10.1. Its directory follows itself, so that it
+ * is every page; strip 1, where there is one, begins with block 1. */
 #include "chelmesut.h"
 #include <stdio.h>
 #include <stdlib.h>
 #include <string.h>
+
+/* A header with other types is refused here by the compiler. */
+#ifdef __cplusplus
+extern "C" {
+#endif
+uint64_t chelmesut_inspect(const uint8_t *, size_t, uint64_t, uint64_t, uint64_t, uint64_t, uint64_t, uint64_t, uint64_t,
+                           uint64_t *, uint64_t[17]);
+uint64_t chelmesut_decode(const uint8_t *, size_t, uint64_t, uint64_t, uint64_t, uint64_t, uint64_t, uint64_t, uint64_t,
+                          const uint64_t[17], uint64_t *, uint8_t *, size_t, uint8_t *, size_t);
+uint64_t chelmesut_read_patchy(const uint8_t *, size_t, const uint8_t *, size_t, uint64_t, uint64_t, uint64_t, uint64_t,
+                               uint64_t, uint64_t, uint64_t, uint64_t *, uint8_t *, size_t, uint8_t *, size_t, uint8_t *,
+                               size_t, uint64_t[5]);
+uint64_t chelmesut_work_limit(uint64_t, uint64_t, uint64_t, uint64_t, uint64_t, uint64_t, uint64_t, uint64_t *);
+uint64_t chelmesut_predictor64(const uint8_t *, size_t, uint64_t, uint64_t, uint64_t, uint64_t, bool, bool, uint8_t *,
+                               size_t);
+uint64_t chelmesut_predictor3(const uint8_t *, size_t, uint64_t, uint64_t, uint64_t, bool, uint8_t *, size_t, uint8_t *,
+                              size_t);
+#ifdef __cplusplus
+}
+#endif
 
 enum {
     WAS = 0xa5,
@@ -23,6 +44,9 @@ enum { PAGE = 3, MOST_FILE = CHELMESUT_BLOCK + 8 };
 
 static const uint8_t packets[8] = {0x80, 0x07, 0x80, 0x01, 0x80, 0x02, 0x80, 0x03};
 static const uint8_t pixels[OUTPUT] = {0x01, 0x07, 0xc7, 0x00, 0x17, 0x01, 0x01, 0x07, 0xc7, 0x00, 0x17, 0x01};
+
+/* In 32 bits it would be 0. */
+static const uint64_t wide = (uint64_t)1 << 32;
 
 static unsigned long compared;
 
@@ -177,6 +201,12 @@ static void inspection(void)
         limit[i]--;
         inspect_refused("inspection with one limit lower", &file, file.length, PAGE, limit, 1000, numbers[i], charged[i]);
     }
+    for (int i = 0; i < LIMITS; i++)
+        limit[i] = wide;
+    budget = wide + FRONT + FEE;
+    same("inspection with wide limits", inspect(&file, file.length, PAGE, limit, &budget, handle), CHELMESUT_OK);
+    same("what inspection leaves", budget, wide);
+    inspect_refused("inspection of a late page", &file, file.length, wide + PAGE, least, 1000, CHELMESUT_LIMIT, 0);
     inspect_refused("inspection of the page after the last allowed", &file, file.length, PAGE + 1, least, 1000,
                     CHELMESUT_LIMIT, 0);
     inspect_refused("inspection of a short file", &file, file.length - 1, PAGE, least, 1000, CHELMESUT_TRUNCATED, FRONT);
@@ -307,6 +337,10 @@ static void read_strips(void)
     const uint8_t good = CHELMESUT_QUALITY_GOOD, missing = CHELMESUT_QUALITY_MISSING;
     struct trial t = whole("patchy reading, all came");
     read_patchy(&t, CHELMESUT_OK, FRONT + 2 * FEE, good, good);
+    t = whole("patchy reading with wide limits");
+    for (int i = 0; i < LIMITS; i++)
+        t.limit[i] = wide;
+    read_patchy(&t, CHELMESUT_OK, FRONT + 2 * FEE, good, good);
     t = whole("patchy reading without a map");
     t.map_length = 0;
     read_patchy(&t, CHELMESUT_OK, FRONT + 2 * FEE, good, good);
@@ -399,6 +433,7 @@ static void predictor64(void)
 {
     static const uint64_t wraps[] = {UINT64_MAX, 2}, wrapped[] = {UINT64_MAX, 1};
     static const uint64_t raw[] = {1, 2, 3, 4, 5, 6}, rows[] = {1, 3, 3, 4, 9, 6}, pixel_pairs[] = {1, 2, 4, 6, 5, 6};
+    static const uint64_t sums[] = {1, 3, 6, 10, 15, 21};
     predict64("predictor 64 that wraps", wraps, 16, 2, 1, 1, 2, true, true, 16, CHELMESUT_OK, wrapped);
     predict64("predictor 64, 3 by 2", raw, 48, 3, 2, 1, 2, false, true, 48, CHELMESUT_OK, rows);
     predict64("predictor 64, 3 by 1, two channels", raw, 48, 3, 1, 2, 2, true, true, 49, CHELMESUT_OK, pixel_pairs);
@@ -406,6 +441,9 @@ static void predictor64(void)
     predict64("predictor 64, five channels", raw, 48, 3, 2, 5, 2, true, true, 48, CHELMESUT_UNSUPPORTED, raw);
     predict64("predictor 64, no columns", raw, 48, 0, 2, 1, 2, true, true, 48, CHELMESUT_INVALID, raw);
     predict64("predictor 64, too large", raw, 48, UINT64_MAX, 2, 1, 2, true, true, 48, CHELMESUT_LIMIT, raw);
+    predict64("predictor 64, too high", raw, 48, 3, wide + 2, 1, 2, true, true, 48, CHELMESUT_TRUNCATED, raw);
+    predict64("predictor 64, many channels", raw, 48, 3, 2, wide + 1, 2, true, true, 48, CHELMESUT_UNSUPPORTED, raw);
+    predict64("predictor 64, a late reset", raw, 48, 6, 1, 1, wide + 2, true, true, 48, CHELMESUT_OK, sums);
     predict64("predictor 64, short input", raw, 40, 3, 2, 1, 2, true, true, 48, CHELMESUT_TRUNCATED, raw);
     predict64("predictor 64, short output", raw, 48, 3, 2, 1, 2, true, true, 47, CHELMESUT_OUTPUT_TOO_SMALL, raw);
 }
@@ -440,6 +478,9 @@ static void predictor3(void)
     predict3("predictor 3, two rows, two channels of three bytes", 24, 12, 2, 3, false, 25, 26, CHELMESUT_OK, pairs, big);
     predict3("predictor 3, samples of five bytes", 4, 4, 1, 5, true, 4, 4, CHELMESUT_UNSUPPORTED, sums, little);
     predict3("predictor 3, a row that is no multiple", 4, 3, 1, 2, true, 4, 4, CHELMESUT_INVALID, sums, little);
+    predict3("predictor 3, a long row", 4, wide + 4, 1, 2, true, 4, 4, CHELMESUT_INVALID, sums, little);
+    predict3("predictor 3, many channels", 4, 4, wide + 1, 2, true, 4, 4, CHELMESUT_UNSUPPORTED, sums, little);
+    predict3("predictor 3, long samples", 4, 4, 1, wide + 2, true, 4, 4, CHELMESUT_UNSUPPORTED, sums, little);
     predict3("predictor 3, short scratch", 4, 4, 1, 2, true, 3, 4, CHELMESUT_OUTPUT_TOO_SMALL, sums, little);
     predict3("predictor 3, short output", 4, 4, 1, 2, true, 4, 3, CHELMESUT_OUTPUT_TOO_SMALL, sums, little);
 }

@@ -1,6 +1,6 @@
 #!/bin/sh
-# The header by itself in each dialect that it is for, face.c as C and as C++ linked with the archive and run, and one version
-# everywhere. gcc and g++ are needed; clang is tried where it is.
+# The header by itself in each dialect that it is for, face.c as C and as C++ linked with the archive and run, the arguments' names
+# as in the proved functions, and one version everywhere. gcc and g++ are needed; clang is tried where it is.
 #
 #     face.sh ARCHIVE
 set -eu
@@ -35,6 +35,17 @@ if [ "$(uname -m)" = x86_64 ]; then
     ! gcc -m32 -ffreestanding -Iinclude -fsyntax-only "$work/alone.c" 2>"$work/narrow" || die "the header compiles for 32 bits"
     grep -q is_for_machines_of_64_bits "$work/narrow" || die "the header does not say that it is for 64 bits"
 fi
+
+# No compiler sees the names of arguments. Here they are in their order, in the header and in what is proved.
+gcc -E -P include/chelmesut.h | tr '\n' ' ' | sed 's/;/;\n/g' | sed -n 's/^ *uint64_t \(chelmesut_[a-z0-9_]*\)(\(.*\));$/\1,\2/p' |
+    awk -F ', *' '{ line = $1; for (i = 2; i <= NF; i++) { sub(/\[[0-9]*\]$/, "", $i); sub(/.*[ *]/, "", $i); line = line " " $i } print line }' \
+        >"$work/header.names"
+awk '/^pub extern "C" fn / { sub(/.*fn /, ""); sub(/\(.*/, ""); line = $0; inside = 1; next }
+     inside && /^\)/ { print line; inside = 0 }
+     inside { name = $1; sub(/:$/, "", name); line = line " " name; if (/: &(mut )?\[u8\],$/) line = line " " name "_len" }' \
+    crates/chelmesut/src/lib.rt >"$work/proved.names"
+diff "$work/header.names" "$work/proved.names" || die "the header's arguments, above, are not those of crates/chelmesut, below"
+[ "$(wc -l <"$work/header.names")" -eq 6 ] || die "not six functions"
 
 version=$(tools/version)
 in_rust=$(sed -n 's/^version = "\(.*\)"$/\1/p' bindings/rust/Cargo.toml | head -n 1)
