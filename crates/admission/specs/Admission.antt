@@ -20,7 +20,7 @@ use Rattle.admission.specs.declared.Room.{Room}
 abbrev pub roomIn : List ℕ → List ℕ → List ℕ → Room
 roomIn output scratch quality = record { output = length output; scratch = length scratch; quality = length quality }
 
--- room for the picture, for scratch and for a quality byte a segment
+-- room for the picture, for scratch and for a quality byte a segment (rule 8.5)
 unfoldable pub bufferChecks : Format → Room → List Check
 bufferChecks f room =
     must (leb (f .output) (room .output)) outputTooSmall ∷
@@ -28,7 +28,7 @@ bufferChecks f room =
     must (leb (f .segments) (room .quality)) outputTooSmall ∷ []
 
 module _ (v : Seen) where
-  -- what n segments from k on are charged
+  -- what n segments from k on are charged (rule 5.6)
   unfoldable pub chargesOf : Format → ℕ → ℕ → ℕ
   chargesOf f k zero = 0
   chargesOf f k (suc n) = segmentCharge v f k + chargesOf f (suc k) n
@@ -37,8 +37,8 @@ module _ (v : Seen) where
   abbrev pub pictureCharge : Format → ℕ
   pictureCharge f = chargesOf f 0 (f .segments)
 
-  -- the two limits; the length of the map; header, directories, 128 units and profile; scratch within max_output; the buffers; a charge
-  -- above 2^64-1; the charge
+  -- the two limits (rule 2.2); the length of the map (rule 8.3); header, directories, 128 units and profile (rule 8.4); scratch within max_output; the
+  -- buffers; a charge above 2^64-1; the charge (rule 8.5)
   unfoldable pub patchyChecks : ℕ → ℕ → Limits → Room → List Check
   patchyChecks map page l room =
       limitChecks (v .size) page l

@@ -18,7 +18,7 @@ Refuses (must b n) e w = (b ≡ false) × (n ≡ e)
 Refuses (pay n) e w = (w < n) × (e ≡ budget)
 
 -- the list refuses with number e and leaves w of u units: one of its checks does. Those before it hold and their charges are taken,
--- the check itself takes nothing, and those after it have no say
+-- the check itself takes nothing, and those after it have no say (rules 1.2 and 1.4)
 pub record RefusedAt (cs : List Check) (u e w : ℕ) : Type 0 where
   pub before : List Check
   pub check : Check

@@ -19,12 +19,12 @@ use Rattle.patchy.specs.Patchy as patchy
 use Rattle.patchy.specs.declared.Reading.{Reading}
 use Rattle.face_words.specs.Words.{wordsOf, sameWords}
 
--- after an inspection the words are those of its handle; a refusal leaves them
+-- after an inspection the words are those of its handle; a refusal leaves them (rule 7.2)
 abbrev pub wordsAfter : Inspected → List ℕ → List ℕ
 wordsAfter (inspected-is.Picture h left) old = wordsOf h
 wordsAfter (inspected-is.Refused e left) old = old
 
--- words are a handle's where an inspection with units for any charge gives them
+-- words are a handle's where an inspection with units for any charge gives them (rule 7.4)
 abbrev pub givesWords : Inspected → List ℕ → Bool
 givesWords (inspected-is.Picture h left) given = sameWords (wordsOf h) given
 givesWords (inspected-is.Refused e left) given = false

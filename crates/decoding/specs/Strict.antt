@@ -17,14 +17,14 @@ use Rattle.handle.specs.declared.Handle.{Handle}
 use Rattle.handle.specs.declared.Inspected.{Inspected}
 use Rattle.inspection.specs.Inspection.{handleOf, inspectChecks, isHandle}
 
--- the buffers, the charge
+-- the buffers, the charge (rule 7.4)
 abbrev pub showChecks : Handle → ℕ → ℕ → List Check
 showChecks h output scratch =
     must (leb (h .format .output) output) outputTooSmall ∷
     must (leb (h .scratch) scratch) outputTooSmall ∷
     pay (h .work) ∷ []
 
--- the handle, then these
+-- the handle, then these (rule 7.4)
 abbrev pub decodeChecks : Seen → Limits → Handle → ℕ → ℕ → List Check
 decodeChecks v l h output scratch = must (isHandle v l h) invalid ∷ showChecks h output scratch
 
@@ -32,7 +32,7 @@ decodeChecks v l h output scratch = must (isHandle v l h) invalid ∷ showChecks
 abbrev pub decodedOf : Seen → Limits → Handle → List ℕ → List ℕ → ℕ → Told
 decodedOf v l h output scratch left = run (decodeChecks v l h (length output) (length scratch)) left
 
--- inspection, then decode of what it gives
+-- inspection, then decode of what it gives (rule 7.6)
 module _ (v : Seen) where
   unfoldable pub bothChecks : ℕ → Limits → ℕ → ℕ → List Check
   bothChecks page l output scratch = inspectChecks v page l ++ showChecks (handleOf v page) output scratch
@@ -44,14 +44,14 @@ module _ (v : Seen) where
 abbrev pub decodedOver : Seen → Format → List ℕ → List ℕ
 decodedOver v f old = overlay (pictureOf f (shown v f)) old
 
--- the two buffers after a handle's picture is shown, each as it was before
+-- the two buffers after a handle's picture is shown, each as it was before (rule 7.5)
 abbrev pub pictureOver : Seen → Handle → List ℕ → List ℕ
 pictureOver v h old = decodedOver v (h .format) old
 
 abbrev pub clearedOver : Handle → List ℕ → List ℕ
 clearedOver h old = overlay (replicate (h .scratch) 0) old
 
--- decode of a handle: a refusal leaves both
+-- decode of a handle: a refusal leaves both (rule 1.3)
 abbrev pub outputDecoded : Seen → Handle → Told → List ℕ → List ℕ
 outputDecoded v h t old = onPass t (pictureOver v h old) old
 

@@ -1,4 +1,4 @@
--- A directory without order: what is true of a file exactly if every check of it holds.
+-- A directory (rule 2.7) without order: what is true of a file exactly if every check of it holds.
 use Prim.Native.Nat.{ℕ, _+_, _*_, _<_, _≤_}
 use mathlib.Core.Path.{_≡_}
 use mathlib.Core.Bool.{Bool}

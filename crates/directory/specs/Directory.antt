@@ -1,4 +1,4 @@
--- One directory: its number of entries, the entries by slot, the next offset and the charge.
+-- One directory (rule 2.7): its number of entries, the entries by slot, the next offset and the charge.
 use Prim.Native.Nat.{ℕ, _+_, _*_}
 use mathlib.Core.Path.{_≡_}
 use mathlib.Core.List.{List, [], _∷_, _++_}
@@ -21,10 +21,11 @@ module _ (v : Seen) (big : Bool) where
   abbrev pub nextAt : ℕ → ℕ
   nextAt at = four big v (at + 2 + 12 * entriesAt at)
 
+  -- the number of entries (rules 2.7 a to c)
   unfoldable pub countChecks : ℕ → ℕ → List Check
   countChecks maxTags at = there v at 2 ++ (must (ltb 0 (entriesAt at)) invalid ∷ must (leb (entriesAt at) maxTags) limit ∷ [])
 
-  -- the entries and the next offset, the charge, the tags
+  -- the entries and the next offset, the charge, the tags (rules 2.7 d to f)
   abbrev pub bodyChecks : ℕ → List Check
   bodyChecks at = there v (at + 2) (12 * entriesAt at + 4)
 

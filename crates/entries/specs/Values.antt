@@ -1,4 +1,4 @@
--- Values of an entry: a single one sits left-justified in the entry's field, an array at the offset there.
+-- Values of an entry: a single one stands at the front of the entry's field, two or more at the place that the field holds.
 use Prim.Native.Nat.{ℕ, _+_, _*_}
 use mathlib.Core.Bool.{Bool, _&&_, _||_}
 use lib.Dec.{eqb}
@@ -12,6 +12,7 @@ use Rattle.entries.specs.declared.Value.{Value}
 use Rattle.entries.specs.declared.Value.the-variants.{Outside, Missing, Number}
 
 module _ (v : Seen) (big : Bool) (e : ℕ) where
+  -- how many values an entry has, and whether they are n of type 3 or 4 (rule 2.11)
   abbrev pub countAt : ℕ
   countAt = four big v (e + 4)
 
@@ -21,7 +22,7 @@ module _ (v : Seen) (big : Bool) (e : ℕ) where
   unfoldable pub hasValues : ℕ → Bool
   hasValues n = eqb countAt n && numeric
 
-  -- type 3 has two bytes, type 4 four
+  -- type 3 has two bytes, type 4 four (rule 2.11)
   unfoldable pub sizeOf : ℕ
   sizeOf = pick (eqb (typeAt v big e) 3) 2 4
 
@@ -29,14 +30,15 @@ module _ (v : Seen) (big : Bool) (e : ℕ) where
   unfoldable pub wordAt : ℕ → ℕ
   wordAt p = pick (eqb (typeAt v big e) 3) (two big v p) (four big v p)
 
+  -- a single value (rule 2.12)
   abbrev pub scalarOf : ℕ
   scalarOf = wordAt (e + 8)
 
-  -- whether the values sit in the entry itself
+  -- whether the values stand in the entry itself (rules 2.12 and 2.13)
   unfoldable pub inField : Bool
   inField = eqb countAt 1
 
-  -- where value i lies
+  -- where value i lies (rules 2.12 and 2.13)
   unfoldable pub placeOf : ℕ → ℕ
   placeOf i = pick inField (e + 8) (four big v (e + 8)) + sizeOf * i
 

@@ -6,7 +6,7 @@ use lib.Dec.{eqb}
 use Rattle.header.specs.declared.Limits.{Limits}
 use Rattle.handle.specs.declared.Handle.{Handle}
 
--- the six limits, in the order of document 01
+-- the six limits, in the order of rule 1.6
 abbrev pub limitsOf : ℕ → ℕ → ℕ → ℕ → ℕ → ℕ → Limits
 limitsOf input output dimension directories tags segments = record {
   «max_input» = input;
@@ -17,7 +17,7 @@ limitsOf input output dimension directories tags segments = record {
   «max_segments» = segments;
 }
 
--- the words of a handle: upstream's eleven getters, its three sizes, then the blocks and the segments
+-- the words of a handle: upstream's eleven getters, its three sizes, then the blocks and the segments (rule 7.2)
 abbrev pub wordsOf : Handle → List ℕ
 wordsOf h =
     h .format .width ∷

@@ -13,7 +13,7 @@ pub fn wide(x: u8) -> usize
     x as usize
 }
 
-// The six limits, in the order of document 01.
+// The six limits, in the order of rule 1.6.
 pub fn limits_of(
     max_input: usize,
     max_output: usize,

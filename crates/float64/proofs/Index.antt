@@ -1,4 +1,4 @@
--- What stands at each index of the samples; with the laws of a sample in rows64 (plain, first, next), these are the document's words.
+-- What stands at each index of the samples; with the laws of a sample in rows64 (plain, first, next), this is rule 9.3.
 use Prim.Native.Nat.{ℕ, _+_, _*_, _/_, _%_, _^_, _<_, _≤_}
 use mathlib.Core.Path.{_≡_, ap, _∙_}
 use mathlib.Core.List.{List, reverse}

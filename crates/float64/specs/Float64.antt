@@ -9,7 +9,7 @@ use Rattle.checks.specs.Checks.{Check, must}
 use Rattle.checks.specs.Sizes.{most64}
 use Rattle.rows64.specs.Rows64.{row64}
 
--- the picture: h rows of w × ch samples
+-- the picture: h rows of w × ch samples (rule 9.2)
 unfoldable pub samples : Bool → Bool → ℕ → ℕ → ℕ → ℕ → List ℕ → List ℕ
 samples little predict w h ch reset raw = perRow (row64 little predict w ch reset) (8 * (w * ch)) h raw
 
@@ -17,6 +17,7 @@ samples little predict w h ch reset raw = perRow (row64 little predict w ch rese
 abbrev pub size64 : ℕ → ℕ → ℕ → ℕ
 size64 w h ch = h * (8 * (w * ch))
 
+-- what is refused, in order (rule 9.1)
 abbrev pub checks64 : ℕ → ℕ → ℕ → ℕ → ℕ → ℕ → List Check
 checks64 w h ch reset raw out =
     must (ltb 0 ch) unsupported ∷ must (leb ch 4) unsupported ∷

@@ -6,11 +6,11 @@ use lib.ListN.{getD}
 use Rattle.lists.specs.Lists.{pick, tabulate}
 use Rattle.lists.specs.Sums.{summedBack}
 
--- a row's bytes, each with those before it in its channel, modulo 256
+-- a row's bytes, each with those before it in its channel, modulo 256 (rule 9.5)
 unfoldable pub summedRow : ℕ → ℕ → List ℕ → List ℕ
 summedRow size ch row = tabulate size (λ n. summedBack 8 (λ i. getD row i 0) ch n (n / ch))
 
--- byte b of sample s lies in the plane of its significance; the planes come most significant first
+-- byte b of sample s lies in the plane of its significance; the planes come most significant first (rule 9.5)
 abbrev pub plane : Bool → ℕ → ℕ → ℕ
 plane little bytes b = pick little (bytes - 1 - b) b
 

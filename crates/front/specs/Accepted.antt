@@ -8,7 +8,7 @@ use Rattle.tiff.specs.Accepted.{WalkFine, walkFee}
 use Rattle.profile.specs.Accepted.{ProfileFine}
 use Rattle.front.specs.Front.{profileFee, slotsSeen}
 
--- what the front part charges: the directories, and 128 for the profile
+-- what the front part charges: the directories, and 128 for the profile (rules 5.1 and 5.2)
 abbrev pub frontFee : Seen → ℕ → ℕ
 frontFee v page = walkFee v (bigEndian v) page (firstOf v) + profileFee
 

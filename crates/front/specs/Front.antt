@@ -1,4 +1,4 @@
--- The front part of every reading: header, directories up to the page, 128 units, profile.
+-- The front part of every reading (rules 2.3 to 3.8): header, directories up to the page, 128 units, profile.
 use Prim.Native.Nat.{ℕ}
 use mathlib.Core.List.{List, _∷_, _++_}
 use Rattle.checks.specs.Checks.{Check, pay, run}
@@ -14,7 +14,7 @@ use Rattle.picture.specs.declared.Format.{Format}
 use Rattle.front.specs.declared.Found.{Found}
 use Rattle.front.specs.declared.Found.the-variants.{Refused, Picture}
 
--- what is charged after the directories
+-- what is charged after the directories (rule 5.2)
 abbrev pub profileFee : ℕ
 profileFee = 128
 

@@ -29,7 +29,7 @@ abbrev pub onInspected : {X : Type 0} → Inspected → X → X → X
 onInspected (Picture h left) x y = x
 onInspected (Refused e left) x y = y
 
--- equal in every field
+-- equal in every field (rule 7.4)
 abbrev pub sameBool : Bool → Bool → Bool
 sameBool a b = pick a b (not b)
 

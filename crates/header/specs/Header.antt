@@ -1,4 +1,4 @@
--- The limits on the whole file, then its first eight bytes: byte order and first directory.
+-- The limits on the whole file, then its first eight bytes: byte order and first directory (rules 2.2 to 2.5).
 use Prim.Native.Nat.{ℕ, suc}
 use mathlib.Core.Path.{_≡_}
 use mathlib.Core.Logic.{_⊎_}
@@ -14,6 +14,7 @@ use Rattle.header.specs.declared.Limits.{Limits}
 use Rattle.header.specs.declared.Start.{Start}
 use Rattle.header.specs.declared.Start.the-variants.{Refused, At}
 
+-- the file's length and the page (rule 2.2)
 abbrev pub limitChecks : ℕ → ℕ → Limits → List Check
 limitChecks size page l = must (leb size (l .«max_input»)) limit ∷ must (ltb page (l .«max_directories»)) limit ∷ []
 
@@ -22,7 +23,7 @@ unfoldable pub begins : Seen → ℕ → List ℕ → Bool
 begins v i [] = true
 begins v i (x ∷ xs) = eqb (v .byte i) x && begins v (suc i) xs
 
--- the strings of the two byte orders, and those of the 64-bit format
+-- the strings of the two byte orders, and those of the 64-bit format (rule 2.4)
 abbrev pub littleEndian : Seen → Bool
 littleEndian v = begins v 0 (0x49 ∷ 0x49 ∷ 0x2A ∷ 0x00 ∷ [])
 
@@ -38,9 +39,11 @@ longBig v = begins v 0 (0x4D ∷ 0x4D ∷ 0x00 ∷ 0x2B ∷ [])
 unfoldable pub orderChecks : Seen → List Check
 orderChecks v = must (not (longLittle v || longBig v)) unsupported ∷ must (bigEndian v || littleEndian v) invalid ∷ []
 
+-- eight bytes are needed, then these (rule 2.3)
 unfoldable pub headerChecks : Seen → List Check
 headerChecks v = there v 0 8 ++ orderChecks v
 
+-- where the first directory stands (rule 2.5)
 abbrev pub firstOf : Seen → ℕ
 firstOf v = four (bigEndian v) v 4
 

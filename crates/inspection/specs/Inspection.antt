@@ -15,16 +15,16 @@ use Rattle.handle.specs.Handle.{inspected, gives}
 use Rattle.handle.specs.declared.Handle.{Handle}
 use Rattle.handle.specs.declared.Inspected.{Inspected}
 
--- the handle of a page with this format, where the fees make up this work
+-- the handle of a page with this format, where the fees make up this work (rule 7.2)
 abbrev pub handleWith : Format → ℕ → ℕ → Handle
 handleWith f page work = record { format = f; page = page; scratch = scratchOf f; work = work }
 
 module _ (v : Seen) where
-  -- all segments of a format, ascending
+  -- all segments of a format, ascending (rule 4.2)
   unfoldable pub segmentsChecks : Format → ℕ → List Check
   segmentsChecks f maxOutput = eachSegment v f maxOutput 0 (f .segments)
 
-  -- the sum of their fees
+  -- the sum of their fees (rule 5.4)
   abbrev pub workOf : Format → ℕ
   workOf f = feesOf v f 0 (f .segments)
 
@@ -34,7 +34,7 @@ module _ (v : Seen) where
   abbrev pub handleOf : ℕ → Handle
   handleOf page = handleIn (formatSeen v page) page
 
-  -- the two limits before any byte is read; header, directories, 128 units and profile; the segments
+  -- the two limits before any byte is read; header, directories, 128 units and profile; the segments (rule 7.1)
   unfoldable pub inspectChecks : ℕ → Limits → List Check
   inspectChecks page l =
       limitChecks (v .size) page l
@@ -44,6 +44,6 @@ module _ (v : Seen) where
   abbrev pub inspectedOf : ℕ → Limits → ℕ → Inspected
   inspectedOf page l left = inspected (run (inspectChecks page l) left) (handleOf page)
 
--- a handle is what an inspection of its page answers where the units suffice for any charge
+-- a handle is what an inspection of its page answers where the units suffice for any charge (rule 7.4)
 unfoldable pub isHandle : Seen → Limits → Handle → Bool
 isHandle v l h = gives (inspectedOf v (h .page) l most64) h

@@ -9,7 +9,7 @@ use Rattle.picture.specs.declared.Format.{Format}
 use Rattle.picture.specs.Picture.{neededOf}
 use Rattle.plan.specs.Plan.{offsetOf, countOf, feeOf, planChecks}
 
--- the packets of bytes that are to fill segment k: needed are 4A bytes, stride the block width
+-- the packets of bytes that are to fill segment k: needed are 4A bytes, stride the block width (rule 4.4)
 abbrev pub fillChecks : Format → ℕ → List ℕ → List Check
 fillChecks f k bytes = packetChecks (f .«block_width») bytes 0 (neededOf f k)
 
@@ -21,20 +21,20 @@ module _ (v : Seen) (f : Format) where
   unfoldable pub storedChecks : ℕ → List Check
   storedChecks k = fillChecks f k (stored k)
 
-  -- the fee, then the packets
+  -- the fee, then the packets (rules 4.2 f and g)
   abbrev pub feeChecks : ℕ → List Check
   feeChecks k = pay (feeOf v f k) ∷ storedChecks k
 
-  -- one segment: the plan, the fee, the packets
+  -- one segment: the plan, the fee, the packets (rule 4.2)
   unfoldable pub segmentChecks : ℕ → ℕ → List Check
   segmentChecks maxOutput k = planChecks v f maxOutput k ++ feeChecks k
 
-  -- n segments from k on, each finished before the next begins
+  -- n segments from k on, each finished before the next begins (rule 4.2)
   unfoldable pub eachSegment : ℕ → ℕ → ℕ → List Check
   eachSegment maxOutput k zero = []
   eachSegment maxOutput k (suc n) = segmentChecks maxOutput k ++ eachSegment maxOutput (suc k) n
 
-  -- the sum of their fees
+  -- the sum of their fees (rule 5.4)
   unfoldable pub feesOf : ℕ → ℕ → ℕ
   feesOf k zero = 0
   feesOf k (suc n) = feeOf v f k + feesOf (suc k) n

@@ -1,4 +1,4 @@
--- What the conversion of planes into a lent buffer is checked for, in order.
+-- What the conversion of planes into a lent buffer is checked for, in order (rule 6.8).
 use Prim.Native.Nat.{ℕ, _+_, _*_, _/_, _%_}
 use mathlib.Core.List.{List, [], _∷_}
 use lib.ListN.{take, drop, getD}

@@ -8,10 +8,10 @@ use Rattle.picture.specs.Picture.{pictureOf}
 use Rattle.quality.specs.Quality.{codeOf, showsOf}
 
 module _ (v : Seen) (f : Format) where
-  -- the quality byte of each segment
+  -- the quality byte of each segment (rule 8.7)
   abbrev pub codesOf : List ℕ
   codesOf = tabulate (f .segments) (codeOf v f)
 
-  -- the picture, in which a segment that is not good is zero; what stood after it stays
+  -- the picture, in which a segment that is not good is zero; what stood after it stays (rules 8.7 and 8.8)
   abbrev pub shownOver : List ℕ → List ℕ
   shownOver old = overlay (pictureOf f (showsOf v f)) old

@@ -9,7 +9,7 @@ use Rattle.fp_rows.specs.FpRows.{summedRow, gatheredRow}
 use Rattle.checks.specs.Numbers.{invalid, unsupported, outputTooSmall}
 use Rattle.checks.specs.Checks.{Check, must}
 
--- the whole input, row by row
+-- the whole input, row by row (rule 9.5)
 unfoldable pub summed : ℕ → ℕ → List ℕ → List ℕ
 summed size ch raw = perRow (summedRow size ch) size (length raw / size) raw
 
@@ -19,6 +19,7 @@ gathered size ch bytes little raw = perRow (gatheredRow size bytes little) size 
 abbrev pub sampleBytes : ℕ → Bool
 sampleBytes n = pick (eqb n 2) true (pick (eqb n 3) true (pick (eqb n 4) true (eqb n 8)))
 
+-- what is refused, in order (rule 9.4)
 abbrev pub fpChecks : ℕ → ℕ → ℕ → ℕ → ℕ → ℕ → List Check
 fpChecks row ch bytes raw scratch out =
     must (sampleBytes bytes) unsupported ∷

@@ -17,6 +17,7 @@ use Rattle.patchy.specs.declared.Sizes.{Sizes}
 use Rattle.patchy.specs.declared.Reading.{Reading}
 use Rattle.patchy.specs.declared.Reading.the-variants.{Refused, Picture}
 
+-- what a picture is answered with (rule 8.9)
 abbrev pub sizesOf : Format → Sizes
 sizesOf f = record {
   width = f .width;
@@ -26,7 +27,7 @@ sizesOf f = record {
   segments = f .segments;
 }
 
--- the number of an answer, 0 where it is a picture, its values in the order of document 01, and the units left
+-- the number of an answer, 0 where it is a picture, its values in the order of rule 8.9, and the units left
 abbrev pub readingNumber : Reading → ℕ
 readingNumber (Picture s left) = 0
 readingNumber (Refused e left) = e
@@ -53,11 +54,11 @@ module _ (v : Seen) where
   abbrev pub readingOf : ℕ → ℕ → Limits → Room → ℕ → Reading
   readingOf map page l room left = readingFrom (admitted v map page l room left)
 
-  -- the quality byte of each segment, and 0 for all that come after the last
+  -- the quality byte of each segment, and 0 for all that come after the last (rules 8.7 and 8.8)
   abbrev pub codesOver : Format → List ℕ → List ℕ
   codesOver f old = overlay (codesOf v f) (replicate (length old) 0)
 
-  -- what is left in the three buffers, each as it was before the call
+  -- what is left in the three buffers, each as it was before the call (rules 8.7 and 8.8; after a refusal rule 1.3)
   abbrev pub outputAfter : ℕ → Reading → List ℕ → List ℕ
   outputAfter page r old = onReading r (shownOver v (formatSeen v page) old) old
 

@@ -5,15 +5,15 @@ use lib.ListN.{take, drop, getD}
 use lib.Dec.{leb}
 use Rattle.lists.specs.Lists.{joined, perRow}
 
--- floor((2x+1)·8192/205)
+-- floor((2x+1)·8192/205) (rule 6.3)
 unfoldable pub uv : ℕ → ℕ
 uv x = (2 * x + 1) * 8192 / 205
 
--- L, u and v as 16-bit little-endian; L is copied
+-- L, u and v as 16-bit little-endian; L is copied (rule 6.2)
 unfoldable pub pixel : ℕ → ℕ → ℕ → ℕ → List ℕ
 pixel high low u v = low ∷ high ∷ uv u % 256 ∷ uv u / 256 ∷ uv v % 256 ∷ uv v / 256 ∷ []
 
--- the i-th pixel of a row of planes of w bytes each
+-- the i-th pixel of a row of planes of w bytes each (rule 6.1)
 unfoldable pub pixelAt : ℕ → List ℕ → ℕ → List ℕ
 pixelAt w row i = pixel (getD row i 0) (getD row (w + i) 0) (getD row (2 * w + i) 0) (getD row (3 * w + i) 0)
 

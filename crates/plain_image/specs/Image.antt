@@ -42,7 +42,7 @@ noFormat = record {
 abbrev pub noHandle : Handle
 noHandle = record { format = noFormat; page = 0; scratch = 0; work = 0 }
 
--- what an image carries: 0, the limits and the handle; after a refusal its number, and all else is 0
+-- what an image carries: 0, the limits and the handle; after a refusal its number, and all else is 0 (rule 7.7)
 abbrev pub refused : ℕ → Info
 refused e = record { number = e; limits = noLimits; handle = noHandle }
 
@@ -55,7 +55,7 @@ pub record ImageInspected (file : List ℕ) (page : ℕ) (l : Limits) (units : �
   pub info-is : info ≡ infoOf l (inspectedOf (seen file []) page l units)
   pub left-is : left ≡ inspectedLeft (inspectedOf (seen file []) page l units)
 
--- an image that carries a refusal is not what a successful inspection gives; the rest goes by its handle
+-- an image that carries a refusal is not what a successful inspection gives; the rest goes by its handle (rules 7.7 and 7.4)
 unfoldable pub imageChecks : Seen → Info → ℕ → ℕ → List Check
 imageChecks v i output scratch = must (eqb (i .number) 0) invalid ∷ decodeChecks v (i .limits) (i .handle) output scratch
 

@@ -1,4 +1,4 @@
--- The plan of a segment: its two entries, its range, its area and its fee, in order.
+-- The plan of a segment: its two entries, its range, its area and its fee, in order (rules 4.2 a to e).
 use Prim.Native.Nat.{ℕ}
 use mathlib.Core.List.{List, [], _∷_, _++_}
 use lib.Dec.{leb}
@@ -18,7 +18,7 @@ use Rattle.plan.specs.declared.Plan.{Plan}
 use Rattle.plan.specs.declared.Planned.{Planned}
 use Rattle.plan.specs.declared.Planned.the-variants as planned-is
 
--- the document's number for each answer, 0 where nothing is refused
+-- the number of each answer (rule 1.1), 0 where nothing is refused
 abbrev pub placeNumber : Place → ℕ
 placeNumber (place-is.Refused e) = e
 placeNumber (place-is.Range offset count) = 0
@@ -35,7 +35,7 @@ module _ (v : Seen) (f : Format) (k : ℕ) where
   abbrev pub countOf : ℕ
   countOf = valueAt v (f .big) (f .counts) k
 
-  -- the entries of the two, and the range
+  -- the entries of the two, and the range (rules 4.2 a to c)
   abbrev pub offsetEntry : List Check
   offsetEntry = there v (placeOf v (f .big) (f .offsets) k) (sizeOf v (f .big) (f .offsets))
 
@@ -55,7 +55,7 @@ module _ (v : Seen) (f : Format) (k : ℕ) where
   abbrev pub placeIs : Place
   placeIs = placed (verdict placeChecks)
 
-  -- what it costs
+  -- what it costs (rule 5.3)
   abbrev pub feeOf : ℕ
   feeOf = fee countOf (areaOf f k)
 
@@ -63,7 +63,7 @@ module _ (v : Seen) (f : Format) (k : ℕ) where
   planOf = record { offset = offsetOf; count = countOf; fee = feeOf }
 
 module _ (v : Seen) (f : Format) (maxOutput k : ℕ) where
-  -- 10A within max_output, the fee within 2^64-1
+  -- 10A within max_output, the fee within 2^64-1 (rules 4.2 d and e)
   unfoldable pub areaChecks : List Check
   areaChecks = must (leb (scratchFor (areaOf f k)) maxOutput) limit ∷ must (leb (feeOf v f k) most64) limit ∷ []
 

@@ -1,4 +1,4 @@
--- The profile's tables against document 01, and its answer: the number is that of the checks, which charge nothing.
+-- The profile's tables against rules 3.1 and 2.10, and its answer: the number is that of the checks, which charge nothing.
 use Prim.Native.Nat.{ℕ}
 use mathlib.Core.Path.{_≡_, refl}
 use mathlib.Core.List.{List, [], _∷_, map}

@@ -1,4 +1,4 @@
--- The profile without order: what is true of a page exactly if every check of the eight steps holds.
+-- The profile (rules 3.1 to 3.8) without order: what is true of a page exactly if every check of the eight steps holds.
 use Prim.Native.Nat.{ℕ, _*_, _%_, _<_, _≤_}
 use mathlib.Core.Path.{_≡_}
 use mathlib.Core.Logic.{_⊎_}

@@ -1,4 +1,4 @@
--- The profile of document 01: its eight steps as one list of checks, from the top to the bottom, over what is seen of a file, its byte order, the
+-- The profile (rules 3.1 to 3.8): its eight steps as one list of checks, from the top to the bottom, over what is seen of a file, its byte order, the
 -- slots of the page's directory and the limits; and the format of a picture that passes them.
 use Prim.Native.Nat.{ℕ, zero, suc, _*_, _%_}
 use mathlib.Core.List.{List, [], _∷_, _++_}
@@ -31,7 +31,8 @@ scalars =
     imageWidth ∷ imageLength ∷ compression ∷ photometric ∷ fillOrder ∷ orientation ∷ samplesPerPixel ∷
     rowsPerStrip ∷ planarConfiguration ∷ predictor ∷ tileWidth ∷ tileLength ∷ extraSamples ∷ []
 
--- Step 1: each scalar slot, from the lowest to the highest, is absent, which stands for its default, or holds one value of type 3 or 4. Refused with 2.
+-- Step 1 (rule 3.1): each scalar slot, from the lowest to the highest, is absent, which stands for its default, or holds one value of type 3 or 4.
+-- Refused with 2.
 module _ (v : Seen) (big : Bool) (slots : List ℕ) where
   unfoldable pub scalarFine : ℕ → Bool
   scalarFine k = absent (entryIn slots k) || hasValues v big (entryIn slots k) 1
@@ -63,8 +64,8 @@ module _ (v : Seen) (big : Bool) (slots : List ℕ) where
     «tile_height» = slotNumber tileLength;
   }
 
--- Step 2: the picture has sides, which max_dimension allows, and its samples, compression and photometric interpretation are those of a LogLuv picture.
--- Refused with 3.
+-- Step 2 (rule 3.2): the picture has sides, which max_dimension allows, and its samples, compression and photometric interpretation are those of a
+-- LogLuv picture. Refused with 3.
 unfoldable pub step2 : Numbers → ℕ → List Check
 step2 n maxDimension =
     must (ltb 0 (n .width)) unsupported ∷
@@ -75,7 +76,7 @@ step2 n maxDimension =
     must (eqb (n .compression) 34676) unsupported ∷
     must (eqb (n .photometric) 32845) unsupported ∷ []
 
--- Step 3: fill order, orientation, planar configuration and predictor are the usual ones, and there are no extra samples. Refused with 3.
+-- Step 3 (rule 3.3): fill order, orientation, planar configuration and predictor are the usual ones, and there are no extra samples. Refused with 3.
 unfoldable pub step3 : Numbers → ℕ → List Check
 step3 n extra =
     must (eqb (n .«fill_order») 1) unsupported ∷
@@ -84,8 +85,8 @@ step3 n extra =
     must (eqb (n .predictor) 1) unsupported ∷
     must (absent extra) unsupported ∷ []
 
--- Step 4: samples have 16 bits each, and then format 2 each. An array of another type or length is refused with 3; a value is looked for in the file (1),
--- among what came (8), and held to the number wanted (3), before the next.
+-- Step 4 (rule 3.4): samples have 16 bits each, and then format 2 each. An array of another type or length is refused with 3; a value is looked for in
+-- the file (1), among what came (8), and held to the number wanted (3), before the next.
 module _ (v : Seen) (big : Bool) where
   -- n values of an entry from value i on are there, and this number
   unfoldable pub eachIs : ℕ → ℕ → ℕ → ℕ → List Check
@@ -100,8 +101,8 @@ module _ (v : Seen) (big : Bool) where
   unfoldable pub step4 : List ℕ → List Check
   step4 slots = threeChecks (entryIn slots bitsPerSample) 16 ++ threeChecks (entryIn slots sampleFormat) 2
 
--- Step 5: where there are tile offsets a block has the tile's sides; else it is a strip, as wide as the picture and as high as the rows of a strip, or as the
--- picture where that is less. Each side is above 0 and at most 16384. Refused with 3.
+-- Step 5 (rule 3.5): where there are tile offsets a block has the tile's sides; else it is a strip, as wide as the picture and as high as the rows of a
+-- strip, or as the picture where that is less. Each side is above 0 and at most 16384. Refused with 3.
 unfoldable pub shapeOf : Numbers → Bool → Shape
 shapeOf n tiled = record {
   width = n .width;
@@ -121,7 +122,7 @@ step5 s =
     must (ltb 0 (s .«block_height»)) unsupported ∷
     must (leb (s .«block_height») mostSide) unsupported ∷ []
 
--- Step 6: tiles and strips do not mix: neither has an entry of the other's, and a tile's sides are multiples of 16. Refused with 2.
+-- Step 6 (rule 3.6): tiles and strips do not mix: neither has an entry of the other's, and a tile's sides are multiples of 16. Refused with 2.
 unfoldable pub step6 : Shape → List ℕ → List Check
 step6 s slots = pick (s .tiled)
     (must (absent (entryIn slots stripOffsets)) invalid ∷
@@ -132,8 +133,8 @@ step6 s slots = pick (s .tiled)
     must (absent (entryIn slots tileLength)) invalid ∷
     must (absent (entryIn slots tileByteCounts)) invalid ∷ [])
 
--- Step 7: so many blocks across and down are the segments, and six bytes a pixel are the output; max_segments and max_output allow them. Refused with 4. The
--- numbers are exact, so one above 2^64-1 is above every limit.
+-- Step 7 (rule 3.7): so many blocks across and down are the segments, and six bytes a pixel are the output; max_segments and max_output allow them.
+-- Refused with 4. The numbers are exact, so one above 2^64-1 is above every limit.
 abbrev pub acrossOf : Shape → ℕ
 acrossOf s = pieces (s .width) (s .«block_width»)
 
@@ -148,7 +149,7 @@ step7 s maxSegments maxOutput =
     must (leb (segmentsOf s) maxSegments) limit ∷
     must (leb (outputOf s) maxOutput) limit ∷ []
 
--- Step 8: there is an offset and a count for each segment, of type 3 or 4. Refused with 2.
+-- Step 8 (rule 3.8): there is an offset and a count for each segment, of type 3 or 4. Refused with 2.
 abbrev pub offsetsIn : List ℕ → Bool → ℕ
 offsetsIn slots tiled = pick tiled (entryIn slots tileOffsets) (entryIn slots stripOffsets)
 

@@ -1,4 +1,4 @@
--- Every marked case of the list agrees with the document: one proposition, computed.
+-- Every marked case of the list agrees with its rule: one proposition, computed.
 use mathlib.Core.Path.{_≡_, refl}
 use mathlib.Core.List.{map}
 use Rattle.lists.specs.Lists.{span, joined, perRow}

@@ -23,12 +23,12 @@ use Rattle.promises.specs.StrictCall as strict
 use Rattle.promises.specs.Patchy.{Call, view, pageFormat, checks, Answered, RefusedWith, Reads, MarkedGood, definedPixel, PixelOf, segmentHere, placeHere, ShowsPixel, Blank, Alike, SameOutcome}
 use Rattle.promises.specs.Patchy as patchy
 
--- a number of document 01's table, up to the greatest that a reading gives
+-- a number of a refusal (rule 1.1), up to the greatest that a reading gives
 abbrev pub Numbered : ℕ → ℕ → Type 0
 Numbered greatest e = (0 < e) × (e ≤ greatest)
 
 -- Any file, map, page, limits, budget and buffers get an answer. Bad input is refused by number in a fixed order; budget and every buffer after
--- each refusal are fixed.
+-- each refusal are fixed (rules 1.1 to 1.4).
 pub record Demand1 : Type 0 where
   -- a reading with a delivery map is answered with a picture, or refused with one of the numbers 1 to 9
   pub reading-answers : (c : Call) → ((s : Sizes) × (w : ℕ) × Answered c s w) ⊎ ((e : ℕ) × (w : ℕ) × (RefusedWith c e w × Numbered 9 e))
@@ -64,8 +64,8 @@ pub record Demand1 : Type 0 where
   pub read-leaves : (c : StrictCall) (e w : ℕ) → strict.answer c ≡ inspected-is.Refused e w
       → (strict.outputThen c ≡ c .output) × (strict.scratchThen c ≡ c .scratch)
 
--- A picture is accepted exactly when it meets document 01's profile, limits and segment rules and the budget covers the exact charge. Each output
--- byte then equals the LogLuv definition.
+-- A picture is accepted exactly when it meets the rules on profile, limits and segments and the budget covers the exact charge (rules 5.4, 7.1, 7.4, 7.6
+-- and 8.9). Each output byte then equals the LogLuv definition (rules 6.1 to 6.5 and 7.5).
 pub record Demand2 : Type 0 where
   -- inspection gives a handle and leaves w units exactly when the picture is fine, the charge is covered, the handle is the one defined, and no more
   -- is taken
@@ -88,7 +88,7 @@ pub record Demand2 : Type 0 where
 
 -- Old data looks old. Bytes in blocks that did not come have no influence. In an answered reading a segment is good exactly when its entries and
 -- stored bytes lie in the file and came and its packets are accepted; it then shows the defined pixels. One that isn't good shows six zero bytes
--- per pixel, which no good segment can show.
+-- per pixel, which no good segment can show (rules 8.10, 8.6, 8.7 and 6.7).
 pub record Demand3 : Type 0 where
   -- two files of one length that agree in all blocks that came, read with one map, page, limits, budget and buffer lengths, get the same answer, budget
   -- left and, if answered, pixels and quality bytes, whatever the buffers held

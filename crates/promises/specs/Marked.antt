@@ -1,4 +1,4 @@
--- The marked cases of document 01 as one list: what the definitions give, beside what the document says.
+-- The marked cases (rules 10.1 to 10.12) as one list: what the definitions give, beside what the rule says.
 use Prim.Native.Nat.{ℕ, _*_}
 use mathlib.Core.Bool.{true, false}
 use mathlib.Core.List.{List, [], _∷_, _++_}

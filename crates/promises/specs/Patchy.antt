@@ -86,7 +86,7 @@ module _ (c : Call) where
     pub scratch-allowed : scratchOf pageFormat ≤ c .limits .«max_output»
     pub charge-fits : pictureCharge view pageFormat ≤ most64
 
-  -- the directories, 128, and for each segment 1 or its fee
+  -- the directories, 128, and for each segment 1 or its fee (rule 5.6)
   abbrev pub readingCharge : ℕ
   readingCharge = frontFee view (c .page) + pictureCharge view pageFormat
 
@@ -125,7 +125,7 @@ module _ (c : Call) (s : Sizes) where
   abbrev pub Blank : ℕ → ℕ → Type 0
   Blank x y = (b : ℕ) → b < 6 → getD (outputThen c) (placeHere x y b) 0 ≡ 0
 
--- two calls with one map, page, limits and units, buffers of the same lengths, and files of one length that agree in every block that came
+-- two calls with one map, page, limits and units, buffers of the same lengths, and files of one length that agree in every block that came (rule 8.10)
 pub record Alike (a b : Call) : Type 0 where
   pub one-map : a .map ≡ b .map
   pub one-page : a .page ≡ b .page
@@ -136,7 +136,7 @@ pub record Alike (a b : Call) : Type 0 where
   pub quality-long : length (a .quality) ≡ length (b .quality)
   pub files-agree : Agree (a .file) (b .file) (b .map)
 
--- one answer with the same units left, the same picture where there is one, the same quality bytes
+-- one answer with the same units left, the same picture where there is one, the same quality bytes (rule 8.10)
 pub record SameOutcome (a b : Call) : Type 0 where
   pub answers : answer a ≡ answer b
   pub pixels : (s : Sizes) (w : ℕ) → answer b ≡ Picture s w → take (6 * (s .width * s .height)) (outputThen a)
@@ -147,7 +147,7 @@ pub record SameOutcome (a b : Call) : Type 0 where
 abbrev pub AllCame : Call → Type 0
 AllCame c = (i : ℕ) → i < length (c .file) → arrived (c .map) i ≡ true
 
--- everything came, and what is lent suffices; the units are a number of 64 bits
+-- everything came, and what is lent suffices; the units are a number of 64 bits (rule 8.11)
 pub record Suffices (c : Call) : Type 0 where
   pub came : AllCame c
   pub lent-fine : LentFine c

@@ -25,14 +25,14 @@ use Rattle.logluv_segment.specs.Segment.{stored, feesOf}
 use Rattle.inspection.specs.Inspection.{handleOf}
 use Rattle.handle.specs.declared.Handle.{Handle}
 
--- segment k is good: the bytes of its two entries and its stored bytes lie in the file and came, and its packets are accepted
+-- segment k is good: the bytes of its two entries and its stored bytes lie in the file and came, and its packets are accepted (rule 8.6)
 pub record Good (v : Seen) (f : Format) (k : ℕ) : Type 0 where
   pub offset-there : There v (placeOf v (f .big) (f .offsets) k) (sizeOf v (f .big) (f .offsets))
   pub count-there : There v (placeOf v (f .big) (f .counts) k) (sizeOf v (f .big) (f .counts))
   pub range-there : There v (offsetOf v f k) (countOf v f k)
   pub packets : Fills (f .«block_width») (stored v f k) (4 * areaOf f k)
 
--- good, with 10A and the fee allowed
+-- good, with 10A and the fee allowed (rule 4.2)
 pub record SegmentFine (v : Seen) (f : Format) (maxOutput k : ℕ) : Type 0 where
   pub good : Good v f k
   pub room-allowed : 10 * areaOf f k ≤ maxOutput
@@ -51,7 +51,7 @@ pub record PictureFine (v : Seen) (page : ℕ) (l : Limits) : Type 0 where
   pub page-fine : PageFine v page l
   pub each-segment : (k : ℕ) → k < formatSeen v page .segments → SegmentFine v (formatSeen v page) (l .«max_output») k
 
--- the directories, 128 and the sum of fees
+-- the directories, 128 and the sum of fees (rule 5.4)
 abbrev pub inspectionCharge : Seen → ℕ → ℕ
 inspectionCharge v page = frontFee v page + feesOf v (formatSeen v page) 0 (formatSeen v page .segments)
 
@@ -62,13 +62,13 @@ pub record Inspects (v : Seen) (page : ℕ) (l : Limits) (u w : ℕ) (h : Handle
   pub rest : w ≡ u - inspectionCharge v page
   pub handle-is : h ≡ handleOf v page
 
--- a handle is given: the picture of its own page is fine, what that charges is a number of 64 bits, and the handle is the one defined
+-- a handle is given: the picture of its own page is fine, what that charges is a number of 64 bits, and the handle is the one defined (rule 7.4)
 pub record Given (v : Seen) (l : Limits) (h : Handle) : Type 0 where
   pub fine : PictureFine v (h .page) l
   pub charge-fits : inspectionCharge v (h .page) ≤ most64
   pub handle-is : h ≡ handleOf v (h .page)
 
--- decode of a handle into buffers of these lengths, with u units at hand and w left
+-- decode of a handle into buffers of these lengths, with u units at hand and w left (rule 7.4)
 pub record Decodes (v : Seen) (l : Limits) (h : Handle) (output scratch u w : ℕ) : Type 0 where
   pub given : Given v l h
   pub output-holds : h .format .output ≤ output
@@ -76,7 +76,7 @@ pub record Decodes (v : Seen) (l : Limits) (h : Handle) (output scratch u w : �
   pub covered : h .work ≤ u
   pub rest : w ≡ u - h .work
 
--- inspection of a page and decode of what it gives in one call, with u units at hand and w left: both are charged
+-- inspection of a page and decode of what it gives in one call, with u units at hand and w left: both are charged (rule 7.6)
 pub record ReadsPage (v : Seen) (page : ℕ) (l : Limits) (output scratch u w : ℕ) (h : Handle) : Type 0 where
   pub fine : PictureFine v page l
   pub output-holds : handleOf v page .format .output ≤ output
@@ -85,13 +85,13 @@ pub record ReadsPage (v : Seen) (page : ℕ) (l : Limits) (output scratch u w : 
   pub rest : w ≡ u - (inspectionCharge v page + handleOf v page .work)
   pub handle-is : h ≡ handleOf v page
 
--- the largest 10A of a format's segments: none needs more, and segment 0 needs so much
+-- the largest 10A of a format's segments: none needs more, and segment 0 needs so much (rule 7.3)
 pub record Largest (f : Format) (scratch : ℕ) : Type 0 where
   pub none-more : (k : ℕ) → k < f .segments → 10 * areaOf f k ≤ scratch
   pub some-segment : 0 < f .segments
   pub first-all : 10 * areaOf f 0 ≡ scratch
 
--- the six bytes of pixel (x, y): L, uv(u) and uv(v), little-endian, from the four planes of its row in its segment
+-- the six bytes of pixel (x, y): L, uv(u) and uv(v), little-endian, from the four planes of its row in its segment (rules 6.1, 6.2 and 6.5)
 module _ (v : Seen) (f : Format) (x y : ℕ) where
   abbrev pub planeByte : ℕ → ℕ
   planeByte plane =
@@ -102,7 +102,7 @@ module _ (v : Seen) (f : Format) (x y : ℕ) where
   pixelSeen = pixel (planeByte 0) (planeByte 1) (planeByte 2) (planeByte 3)
 
 -- what stands in the two lent buffers after a handle's picture is shown: each byte of pixel (x, y) as defined, what came after the picture as it
--- was, and scratch zero as far as its size
+-- was, and scratch zero as far as its size (rule 7.5)
 pub record Shows (v : Seen) (h : Handle) (output scratch output′ scratch′ : List ℕ) : Type 0 where
   pub pixel-bytes : (x y b : ℕ) → x < h .format .width → y < h .format .height → b < 6
       → getD output′ ((y * h .format .width + x) * 6 + b) 0 ≡ getD (pixelSeen v (h .format) x y) b 0

@@ -15,27 +15,27 @@ use Rattle.showing.specs.Shown.{shown}
 use Rattle.quality.specs.declared.Quality.{Quality}
 use Rattle.quality.specs.declared.Quality.the-variants.{Good, Missing, Outside, Rejected}
 
--- the first that applies: an entry or the range outside the file, or there and not arrived, then packets not accepted
+-- the first that applies: an entry or the range outside the file, or there and not arrived, then packets not accepted (rule 8.6)
 abbrev pub judged : Verdict → Verdict → ℕ → ℕ → Quality
 judged Fine Fine offset count = Good offset count
 judged Fine (Refused e) offset count = Rejected
 judged (Refused e) packets offset count = pick (eqb e truncated) Outside Missing
 
--- the number of each case, as it stands in the quality buffer
+-- the number of each case, as it stands in the quality buffer (rule 8.6)
 abbrev pub codeIs : Quality → ℕ
 codeIs (Good offset count) = 1
 codeIs Missing = 2
 codeIs Outside = 3
 codeIs Rejected = 4
 
--- one unit where the stored bytes could not be read, else the fee
+-- one unit where the stored bytes could not be read, else the fee (rule 5.6)
 abbrev pub chargeIs : Quality → ℕ → ℕ
 chargeIs (Good offset count) fee = fee
 chargeIs Missing fee = 1
 chargeIs Outside fee = 1
 chargeIs Rejected fee = fee
 
--- the bytes of a good segment. Of any other there are none, and where a byte is wanted that is not there it is 0
+-- the bytes of a good segment. Of any other there are none, and where a byte is wanted that is not there it is 0 (rule 8.7)
 abbrev pub whereGood : Quality → List ℕ → List ℕ
 whereGood (Good offset count) bytes = bytes
 whereGood Missing bytes = []

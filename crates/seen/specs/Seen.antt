@@ -16,18 +16,18 @@ pub record Seen : Type 0 where
   pub came : ℕ → Bool
   pub byte : ℕ → ℕ
 
--- a block is 512 bytes
+-- a block is 512 bytes (rule 8.2)
 abbrev pub blockOf : ℕ → ℕ
 blockOf i = i / 512
 
 abbrev pub blocksIn : ℕ → ℕ
 blocksIn size = (size + 511) / 512
 
--- the map has one byte a block: 1 for arrived, all else not
+-- the map has one byte a block: 1 for arrived, all else not (rule 8.2)
 unfoldable pub blockCame : List ℕ → ℕ → Bool
 blockCame map b = eqb (getD map b 0) 1
 
--- a map is as long as the file has blocks; one of length 0 stands for a file that came whole
+-- a map is as long as the file has blocks; one of length 0 stands for a file that came whole (rules 8.2 and 8.3)
 abbrev pub mapChecks : ℕ → ℕ → List Check
 mapChecks size n = must (pick (eqb n 0) true (eqb n (blocksIn size))) mapSize ∷ []
 
@@ -59,13 +59,13 @@ inside size start n = pick (leb start size) (leb n (size - start)) false
 unfoldable pub reachOf : Seen → ℕ → ℕ → Reach
 reachOf v start n = pick (inside (v .size) start n) (pick (whole (v .came) start n) Inside Missing) Outside
 
--- the number that it stands for: outside 1, not arrived 8
+-- the number that it stands for: outside 1, not arrived 8 (rule 2.1)
 abbrev pub reachNumber : Reach → ℕ
 reachNumber Inside = 0
 reachNumber Outside = truncated
 reachNumber Missing = notArrived
 
--- n bytes from start are needed: outside the file is refused first
+-- n bytes from start are needed: outside the file is refused first (rule 2.1)
 abbrev pub there : Seen → ℕ → ℕ → List Check
 there v start n = must (inside (v .size) start n) truncated ∷ must (whole (v .came) start n) notArrived ∷ []
 
@@ -74,12 +74,12 @@ pub record There (v : Seen) (start n : ℕ) : Type 0 where
   pub in-file : start + n ≤ v .size
   pub came-all : whole (v .came) start n ≡ true
 
--- two files of one length that agree wherever the map says that it came
+-- two files of one length that agree wherever the map says that it came (rule 8.10)
 pub record Agree (f g map : List ℕ) : Type 0 where
   pub one-length : length f ≡ length g
   pub where-came : (i : ℕ) → i < length g → arrived map i ≡ true → getD f i 0 ≡ getD g i 0
 
--- words in the file's byte order
+-- words in the file's byte order (rule 2.11)
 unfoldable pub two : Bool → Seen → ℕ → ℕ
 two big v i = pick big (v .byte i * 256 + v .byte (i + 1)) (v .byte i + v .byte (i + 1) * 256)
 

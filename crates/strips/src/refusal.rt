@@ -1,4 +1,4 @@
-// The refusals in words: document 01's number and name for each, and what it means for the picture at hand.
+// The refusals in words: the number and name of each (rule 1.1), and what it means for the picture at hand.
 use crate::say;
 use header::Limits;
 

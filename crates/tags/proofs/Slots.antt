@@ -1,4 +1,4 @@
--- The table of slots is document 01's: numbers in order, and the nineteen tags. That its defaults are is said where the scalar slots are named.
+-- The table of slots is that of rule 2.10: numbers in order, and the nineteen tags. That its defaults are is said where the scalar slots are named.
 use Prim.Native.Nat.{ℕ}
 use mathlib.Core.Path.{_≡_, refl}
 use mathlib.Core.List.{List, [], _∷_, map}

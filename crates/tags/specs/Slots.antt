@@ -1,5 +1,5 @@
--- The nineteen slots by their TIFF names, each with its tag and its default. A directory's slots are a list of places: that of the entry with the
--- slot's tag, 0 where the tag is absent, as no entry lies at 0.
+-- The nineteen slots by their TIFF names, each with its tag and its default (rule 2.10). A directory's slots are a list of places: that of the entry
+-- with the slot's tag, 0 where the tag is absent, as no entry lies at 0.
 use Prim.Native.Nat.{ℕ}
 use mathlib.Core.List.{List, [], _∷_, map}
 use mathlib.Core.Bool.{Bool, not}

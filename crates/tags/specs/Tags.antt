@@ -21,6 +21,7 @@ abbrev pub none : List ℕ
 none = replicate 19 0
 
 module _ (v : Seen) (big : Bool) where
+  -- the tag and the type of an entry (rule 2.11)
   abbrev pub tagAt : ℕ → ℕ
   tagAt e = two big v e
 
@@ -32,7 +33,7 @@ module _ (v : Seen) (big : Bool) where
   entryOf first tag zero = 0
   entryOf first tag (suc n) = pick (eqb (tagAt (first + 12 * n)) tag) (first + 12 * n) (entryOf first tag n)
 
-  -- entry i may stand: its tag is not known, or it has a type and its tag comes for the first time
+  -- entry i may stand: its tag is not known, or it has a type and its tag comes for the first time (rules 2.7 f and 2.9)
   unfoldable pub fresh : ℕ → ℕ → Bool
   fresh first i =
       not (ltb (slotOf (tagAt (first + 12 * i))) 19)

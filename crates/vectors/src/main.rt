@@ -1,5 +1,5 @@
 // Runs the vectors of data/ through the libraries and writes what came of each, one line a record or a reading, to be held to `stdout`.
-// Models written from document 01 alone made the records, and libtiff the pictures (tests/vectors.py): nothing expected is in here.
+// Models written from the rules of docs/SPECIFICATION.md made the records, and libtiff the pictures (tests/vectors.py): nothing expected is in here.
 use files::Content;
 use front_calls::Front;
 use leaf_calls::Leaf;

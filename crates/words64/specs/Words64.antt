@@ -13,6 +13,6 @@ unfoldable pub digits : ℕ → ℕ → List ℕ
 digits zero v = []
 digits (suc k) v = v % 256 ∷ digits k (v / 256)
 
--- eight bytes in the byte order that is named
+-- eight bytes in the byte order that is named (rule 9.2)
 unfoldable pub word : Bool → List ℕ → ℕ
 word little bs = numberFrom (pick little bs (reverse bs))

@@ -1,4 +1,4 @@
--- Upstream's bound on what an inspection charges, from the page and the limits alone.
+-- The work limit (rule 5.7): upstream's bound on what an inspection charges, from the page and the limits alone.
 use Prim.Native.Nat.{ℕ, _+_, _*_}
 use Rattle.header.specs.declared.Limits.{Limits}
 
