@@ -1,9 +1,9 @@
-"""Vectors for header, directories, profile and the arrival of blocks, and what document 01 says of each.
+"""Vectors for header, directories, profile and the arrival of blocks, and what docs/SPECIFICATION.md says of each.
 
-The model is written from document 01's words (header, directories, profile, arrival of blocks) on whole
-lists and unbounded numbers. It follows no code of this repository: a group of bytes is looked at byte by
-byte, a directory is a list of entries that is judged as a whole, and blocks are counted by laying them out,
-so that an error of the code's places, tests of sizes and divisions can't be repeated here.
+The model is written from its rules (groups 2 and 3; 5.1, 5.2 and 8.2) on whole lists and unbounded numbers. It
+follows no code of this repository: a group of bytes is looked at byte by byte, a directory is a list of
+entries that is judged as a whole, and blocks are counted by laying them out, so that an error of the code's
+places, tests of sizes and divisions can't be repeated here.
 """
 import collections
 import struct
@@ -20,7 +20,7 @@ class Refused(Exception):
     """A check that is not met, with its number."""
 
 SLOTS = (256, 257, 258, 259, 262, 266, 273, 274, 277, 278, 279, 284, 317, 322, 323, 324, 325, 338, 339)
-# The slots of one number, and what it is where there is no entry.
+# The slots of one number, and what it is where there is no entry (rules 2.10 and 3.1).
 SCALARS = {0: 0, 1: 0, 3: 1, 4: 0, 5: 1, 7: 1, 8: 1, 9: 4294967295, 11: 1, 12: 1, 13: 0, 14: 0, 17: 0}
 # How many bytes a value of each type has.
 SIZES = {3: 2, 4: 4}
@@ -28,7 +28,7 @@ SIZES = {3: 2, 4: 4}
 Entry = collections.namedtuple('Entry', 'place tag kind count field')
 Format = collections.namedtuple('Format', 'width height tiled block_width block_height across segments output order offsets counts entries')
 
-# Arrival: a byte came if its block did, and all came where nothing is said of any block.
+# Arrival (rules 2.1, 8.2 and 8.3): a byte came if its block did, and all came where nothing is said of any block.
 def came(blocks, place):
     if len(blocks) == 0:
         return True
@@ -62,14 +62,14 @@ class Reading:
             raise Refused(7)
         self.left -= units
 
-# Limits that are tested before any byte is looked at.
+# Limits that are tested before any byte is looked at (rule 2.2).
 def limited(size, page, limits):
     if size > limits.input:
         raise Refused(4)
     if page >= limits.directories:
         raise Refused(4)
 
-# Header: it sets the order, and says where the first directory is.
+# Header (rules 2.3 to 2.5): it sets the order, and says where the first directory is.
 def header(r):
     head = r.part(0, 8)
     mark = head[:4]
@@ -86,7 +86,7 @@ def header(r):
 def entry(r, place, part):
     return Entry(place, r.number(part[0:2]), r.number(part[2:4]), r.number(part[4:8]), part[8:12])
 
-# Directory: its known entries by slot, how many entries there are in all, and where the next one is.
+# Directory (rule 2.7): its known entries by slot, how many entries there are in all, and where the next one is.
 def directory(r, at, limits):
     n = r.number(r.part(at, 2))
     if n == 0:
@@ -111,7 +111,7 @@ def directories(r, page, limits):
         slots, n, at = directory(r, at, limits)
     return slots, n
 
-# Profile, first step: all numbers that stand alone.
+# Profile, first step (rule 3.1): all numbers that stand alone.
 def scalars(r, slots):
     values = {}
     for slot, default in SCALARS.items():
@@ -126,7 +126,7 @@ def scalars(r, slots):
         values[slot] = r.number(e.field[:SIZES[e.kind]])
     return values
 
-# Profile, fourth step: three values that stand elsewhere, all of one number.
+# Profile, fourth step (rule 3.4): three values that stand elsewhere, all of one number.
 def three(r, e, wanted):
     if e is None or e.kind not in SIZES or e.count != 3:
         raise Refused(3)

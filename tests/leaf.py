@@ -1,10 +1,9 @@
-"""Vectors for packets, planes and predictors, and what document 01 says of each.
+"""Vectors for packets, planes and predictors, and what docs/SPECIFICATION.md says of each.
 
-The model is written from document 01's words (packets, Luv samples, predictors, marked cases) on whole
-lists and unbounded numbers. It follows no code of this repository: packets are listed before they are
-judged, a boundary of the stride is looked for at each place inside a packet, and a predicted sample is
-the sum of all samples since its sum began, so that an error of the code's running sums and counters can't
-be repeated here.
+The model is written from its rules (4.3 to 4.8, groups 6, 9 and 10) on whole lists and unbounded numbers. It
+follows no code of this repository: packets are listed before they are judged, a boundary of the stride is
+looked for at each place inside a packet, and a predicted sample is the sum of all samples since its sum
+began, so that an error of the code's running sums and counters can't be repeated here.
 """
 import collections
 import struct
@@ -17,7 +16,7 @@ Record = collections.namedtuple('Record', 'tag numbers data out scratch')
 
 # ---- model ----
 
-# Packets: a control below 128 is followed by as many bytes, any other by the one byte that it repeats.
+# Packets (rules 4.3 to 4.8): a control below 128 is followed by as many bytes, any other by the one byte that it repeats.
 def listed(part):
     """A range's packets: control, how long it is expanded, how many bytes it wants and those that are there."""
     found, rest = [], list(part)
@@ -60,14 +59,14 @@ def decoded(data, start, count, stride, needed, out):
     whole = expanded(data[start:start + count])
     return 0, whole + out[len(whole):]
 
-# Luv samples: the two colour bytes stand for the middles of 256 equal steps.
+# Pixels (rule 6.3): the two colour bytes stand for the middles of 256 equal steps.
 def uv(x):
     return (2 * x + 1) * 8192 // 205
 
 def pixel(high, low, u, v):
     return list(struct.pack('<HHH', high * 256 + low, uv(u), uv(v)))
 
-# Luv samples: the four planes of a row become pixels of three 16-bit numbers.
+# Pixels (rules 6.1, 6.2 and 6.8): the four planes of a row become pixels of three 16-bit numbers.
 def pixels(planes, w, rows, out):
     if 6 * w * rows > TOP:
         return 4, out
@@ -82,7 +81,7 @@ def pixels(planes, w, rows, out):
             whole += pixel(row[x], row[w + x], row[2 * w + x], row[3 * w + x])
     return 0, whole + out[len(whole):]
 
-# Predictor 64: a predicted sample is the whole sum of its channel since the last reset.
+# Predictor 64 (rules 9.1 to 9.3): a predicted sample is the whole sum of its channel since the last reset.
 def predictor64(raw, w, h, ch, reset, flags, out):
     little, predict = flags % 2 == 1, flags // 2 % 2 == 1
     if not 1 <= ch <= 4:
@@ -107,7 +106,7 @@ def predictor64(raw, w, h, ch, reset, flags, out):
                 whole += list((sum(value(y, k, c) for k in range(began, x + 1)) % 2 ** 64).to_bytes(8, 'little'))
     return 0, whole + out[len(whole):]
 
-# Predictor 3: sums along a row first, and from those the samples, one plane for each byte of a sample.
+# Predictor 3 (rules 9.4 and 9.5): sums along a row first, and from those the samples, one plane for each byte of a sample.
 def predictor3(raw, row, ch, size, little, scratch, out):
     if size not in (2, 3, 4, 8) or not 1 <= ch <= 64 or row == 0:
         return 3, scratch, out
@@ -742,7 +741,7 @@ WRONG = (
     ('a refusal leaves what was read', 'if answer:\n        return answer, out',
      'if answer and start + count <= len(data):\n        e = expanded(data[start:start + count])[:len(out)]\n'
      '        return answer, e + out[len(e):]\n    if answer:\n        return answer, out'),
-    ('the rest of the buffer is cleared', "return 0, whole + out[len(whole):]\n\n# Luv samples: the two", "return 0, whole + [0] * (len(out) - needed)\n\n# Luv samples: the two"),
+    ('the rest of the buffer is cleared', "return 0, whole + out[len(whole):]\n\n# Pixels (rule 6.3): the two", "return 0, whole + [0] * (len(out) - needed)\n\n# Pixels (rule 6.3): the two"),
     ('uv is rounded', '8192 // 205', '8192 // 205 if x % 7 else round((2 * x + 1) * 8192 / 205)'),
     ('uv without its half step', '(2 * x + 1) * 8192', '(2 * x) * 8192'),
     ('uv over 410 of whole steps', '(2 * x + 1) * 8192 // 205', 'x * 16384 // 205 + 39'),

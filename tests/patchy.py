@@ -1,15 +1,15 @@
-"""Vectors for patchy reading, and what document 01 says of each.
+"""Vectors for patchy reading, and what docs/SPECIFICATION.md says of each.
 
-The model is written from document 01's words (patchy reading) on whole lists and unbounded numbers, over
-the models of the front part, of segments and of packets and pixels. It follows no code of this repository:
+The model is written from its rules (group 8, and 5.6) on whole lists and unbounded numbers, over the models
+of the front part, of segments and of packets and pixels. It follows no code of this repository:
 the blocks of a file are counted by laying them out, every segment is judged before the one charge is made,
 and the picture is made whole, byte by byte, before it is put over the output, so that an error of the code's
 walks, running sums and parts of buffers can't be repeated here.
 
-The script stops where two of document 01's sentences do not hold of its own answers: bytes that did not come
-change nothing, and with everything arrived all codes are 1 exactly if strict inspection succeeds, and the
-units left and the pixels are then those of strict reading, by the model of tests/strict.py. Of
-libtiff's pictures the pixels are libtiff's own, by its CRC-32.
+The script stops where two rules do not hold of its own answers: bytes that did not come change nothing (rule
+8.10), and with everything arrived all codes are 1 exactly if strict inspection succeeds, and the units left and
+the pixels are then those of strict reading, by the model of tests/strict.py (rule 8.11). Of libtiff's pictures
+the pixels are libtiff's own, by its CRC-32.
 """
 import collections
 import zlib
@@ -28,10 +28,10 @@ Record = collections.namedtuple('Record', 'tag page limits units output scratch 
 
 # ---- model ----
 
-# Quality: what a segment is whose entry or range a check for 1 or for 8 refuses.
+# Quality (rule 8.6): what a segment is whose entry or range a check for 1 or for 8 refuses.
 CODES = {1: 3, 8: 2}
 
-# Quality of a segment, the first that applies; its charge; its stored bytes where it is good.
+# Quality of a segment, the first that applies (rules 8.6 and 5.6); its charge; its stored bytes where it is good.
 def judged(r, f, k):
     try:
         offset = value(r, f.offsets, k)
@@ -45,18 +45,18 @@ def judged(r, f, k):
         return 4, fee, b''
     return 1, fee, stored
 
-# The picture: what a good segment shows, and six zero bytes for each pixel of any other.
+# The picture (rule 8.7): what a good segment shows, and six zero bytes for each pixel of any other.
 def patched_up(f, codes, parts):
     own = [y // f.block_height * f.across + x // f.block_width for y in range(f.height) for x in range(f.width) for c in range(6)]
     return [byte if codes[k] == 1 else 0 for k, byte in zip(own, shown(f, parts))]
 
-# A map has a byte for each block, or none at all.
+# A map has a byte for each block, or none at all (rules 8.2 and 8.3).
 def mapped(r):
     blocks = len(range(0, len(r.file), 512))
     if len(r.blocks) > 0 and len(r.blocks) != blocks:
         raise Refused(9)
 
-# All that can refuse, in order: the format, and of each segment its quality and its stored bytes.
+# All that can refuse, in order (rules 2.2 and 8.3 to 8.5): the format, and of each segment its quality and its stored bytes.
 def admitted(r, page, limits, output, scratch, quality):
     limited(len(r.file), page, limits)
     mapped(r)
@@ -76,7 +76,7 @@ def admitted(r, page, limits, output, scratch, quality):
     r.charge(sum(charges))
     return f, codes, parts, needed
 
-# Patchy reading: the format or the number of a refusal, and what is then in output, scratch and quality.
+# Patchy reading (rules 8.7 to 8.9, and 1.3): the format or the number of a refusal, and what is then in output, scratch and quality.
 def patchy(r, page, limits, output, scratch, quality):
     try:
         f, codes, parts, needed = admitted(r, page, limits, output, scratch, quality)

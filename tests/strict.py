@@ -1,11 +1,10 @@
-"""Vectors for strict reading, and what document 01 says of each.
+"""Vectors for strict reading, and what docs/SPECIFICATION.md says of each.
 
-The model is written from document 01's words (segments, packets, charges, Luv samples, strict decode, the
-work limit) on whole lists and unbounded numbers, over the models of the front part and of packets and
-pixels. It follows no code of this repository: a strip has the rows of the picture that lie in it, a
-segment is expanded whole before anyone looks for a pixel in it, each byte of the output is looked up by
-itself, and a handle is right if inspection gives the same one, so that an error of the code's running
-sums, parts of buffers and counters can't be repeated here.
+The model is written from its rules (groups 4 to 6, and 7.1 to 7.5) on whole lists and unbounded numbers, over the models of
+the front part and of packets and pixels. It follows no code of this repository: a strip has the rows of the
+picture that lie in it, a segment is expanded whole before anyone looks for a pixel in it, each byte of the
+output is looked up by itself, and a handle is right if inspection gives the same one, so that an error of the
+code's running sums, parts of buffers and counters can't be repeated here.
 """
 import collections
 import zlib
@@ -25,20 +24,20 @@ Handle = collections.namedtuple('Handle', 'width height block_width block_height
                                 ' entries page scratch work')
 FIELDS = Handle._fields + tuple('max_' + name for name in Limits._fields)
 
-# Segments: the value of an array that stands for segment k. A single one stands in the entry itself.
+# Segments (rules 2.12 and 2.13): the value of an array that stands for segment k. A single one stands in the entry itself.
 def value(r, array, k):
     size = SIZES[array.kind]
     if array.count == 1:
         return r.number(array.field[:size])
     return r.number(r.part(r.number(array.field) + size * k, size))
 
-# Segments: a strip has those rows of the picture that lie in it, a tile has all of its own.
+# Segments (rule 4.1): a strip has those rows of the picture that lie in it, a tile has all of its own.
 def rows(f, k):
     if f.tiled:
         return f.block_height
     return len(range(f.height)[k * f.block_height:(k + 1) * f.block_height])
 
-# Segments: one by itself, up to its last packet; its stored bytes, its area and its fee.
+# Segments (rule 4.2): one by itself, up to its last packet; its stored bytes, its area and its fee.
 def segment(r, f, limits, k):
     offset = value(r, f.offsets, k)
     count = value(r, f.counts, k)
@@ -55,7 +54,7 @@ def segment(r, f, limits, k):
         raise Refused(answer)
     return stored, area, fee
 
-# Inspection: the handle, and for decode the format and the stored bytes of each segment.
+# Inspection (rules 7.1 to 7.3): the handle, and for decode the format and the stored bytes of each segment.
 def inspected(r, page, limits):
     limited(len(r.file), page, limits)
     f = picture(r, page, limits)
@@ -64,7 +63,7 @@ def inspected(r, page, limits):
     return Handle(f.width, f.height, f.block_width, f.block_height, f.tiled, f.across, f.segments, f.output, f.order == 'big',
                   f.offsets.place, f.counts.place, f.entries, page, scratch, work), f, stored
 
-# Luv samples: the pixels of each segment, and where each byte of the picture lies among them.
+# Pixels (rules 6.5 and 6.6): those of each segment, and where each byte of the picture lies among them.
 def shown(f, stored):
     segments = [pixels(expanded(part), f.block_width, rows(f, k), [FILL] * (6 * f.block_width * rows(f, k)))[1]
                 for k, part in enumerate(stored)]
@@ -73,7 +72,7 @@ def shown(f, stored):
         return segments[y // f.block_height * f.across + x // f.block_width][place]
     return [byte(x, y, c) for y in range(f.height) for x in range(f.width) for c in range(6)]
 
-# Strict decode: the number, 0 where there is none, the units left, output and scratch.
+# Strict decode (rules 7.4 and 7.5): the number, 0 where there is none, the units left, output and scratch.
 def decoded(file, limits, handle, units, output, scratch):
     try:
         own, f, stored = inspected(Reading(file, b'', TOP), handle.page, limits)
@@ -90,7 +89,7 @@ def decoded(file, limits, handle, units, output, scratch):
     whole = shown(f, stored)
     return 0, units - handle.work, whole + output[len(whole):], [0] * handle.scratch + scratch[handle.scratch:]
 
-# The work limit: upstream's formula, where it is at most the largest number.
+# The work limit (rule 5.7): upstream's formula, where it is at most the largest number.
 def work_limit(page, limits):
     bound = (page + 1) * (limits.tags + 1) + 128 + limits.segments * (limits.input + 2 * limits.output + 1)
     return 'over' if bound > TOP else '%d' % bound
