@@ -23,14 +23,14 @@ abbrev oneOf : ℕ → List ℕ → Bool
 oneOf k [] = false
 oneOf k (x ∷ xs) = eqb k x || oneOf k xs
 
-abbrev documentDefault : ℕ → ℕ
-documentDefault k = pick (eqb k 9) 4294967295 (pick (oneOf k (3 ∷ 5 ∷ 7 ∷ 8 ∷ 11 ∷ 12 ∷ [])) 1 0)
+abbrev ruleDefault : ℕ → ℕ
+ruleDefault k = pick (eqb k 9) 4294967295 (pick (oneOf k (3 ∷ 5 ∷ 7 ∷ 8 ∷ 11 ∷ 12 ∷ [])) 1 0)
 
 pub scalar-slots-are : scalars ≡ 0 ∷ 1 ∷ 3 ∷ 4 ∷ 5 ∷ 7 ∷ 8 ∷ 9 ∷ 11 ∷ 12 ∷ 13 ∷ 14 ∷ 17 ∷ []
 unfolding scalars
 scalar-slots-are = refl
 
-pub defaults-are : map (λ k. getD defaults k 0) scalars ≡ map documentDefault scalars
+pub defaults-are : map (λ k. getD defaults k 0) scalars ≡ map ruleDefault scalars
 unfolding scalars defaults
 defaults-are = refl
 
