@@ -11,7 +11,7 @@ use borrow.Author.Needs.{needs}
 use borrow.Author.Tests.{lt-ltb, le-ltb, ltb-true, ltb-false}
 use Rattle.io.specs.Digits.{digits, Fewest}
 use Rattle.strips.specs.Pgm.{decimalIn, decimalOf}
-use Rattle.strips.specs.Inner.{BytesPlaced}
+use Rattle.placing.specs.Placing.{BytesPlaced}
 
 -- a number of two digits or more, and the same with one fewer
 tens : (n k : ℕ) → Fewest 10 1 n (suc (suc k)) → 10 ^ k * 10 ≤ n

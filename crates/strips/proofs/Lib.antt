@@ -1,3 +1,3 @@
 pub mod Decimals
+pub mod GreyFile
 pub mod Lengths
-pub mod Placing

@@ -1,2 +1,1 @@
 pub mod Pgm
-pub mod Inner

@@ -8,28 +8,7 @@ ghost use Prim.Native.Nat.{_+_, _-_, _≤_};
 ghost use lib.ListN.{length, take};
 ghost use Rattle.io.specs.Counts.{Counts};
 ghost use Rattle.strips.specs.Pgm.{decimalOf, headerOf, greysIn, pgmOf};
-ghost use Rattle.strips.specs.Inner.{BytesPlaced, Written};
-
-fn copy(from: &[u8], to: &mut [u8])
-    requires { ⌜ length (now to) ≡ length (now from) ⌝ }
-    ensures { λ _. ⌜ now (to .exit) ≡ now (from .entry) ⌝ }
-{
-    let mut i: usize = 0;
-    while i < to.len() {
-        to[i] = from[i];
-        i += 1;
-    }
-}
-
-// A text into the buffer at a place; the place after it.
-fn append(text: &[u8], out: &mut [u8], at: usize) -> usize
-    requires { ⌜ at + length (now text) ≤ length (now out) ⌝ }
-    ensures { λ r. ⌜ BytesPlaced (now (text .entry)) at (now (out .entry)) r (now (out .exit)) ⌝ }
-{
-    let end = at + text.len();
-    copy(text, &mut out[at..end]);
-    end
-}
+ghost use Rattle.placing.specs.Placing.{BytesPlaced};
 
 // A number into the buffer at a place, in at most twenty digits; the place after it.
 fn append_number(n: usize, out: &mut [u8], at: usize) -> usize
@@ -38,19 +17,19 @@ fn append_number(n: usize, out: &mut [u8], at: usize) -> usize
 {
     let mut digits = [0; 20];
     let k = io::decimal(n as u64, &mut digits);
-    append(&digits[..k], out, at)
+    placing::append(&digits[..k], out, at)
 }
 
 // What stands before the pixels; the place after it.
 fn put_header(width: usize, height: usize, out: &mut [u8]) -> usize
     requires { ⌜ 49 ≤ length (now out) ⌝ }
-    ensures { λ r. ⌜ Written (headerOf width height) (now (out .entry)) r (now (out .exit)) ⌝ }
+    ensures { λ r. ⌜ BytesPlaced (headerOf width height) 0 (now (out .entry)) r (now (out .exit)) ⌝ }
 {
-    let kind = append(b"P5\n", out, 0);
+    let kind = placing::append(b"P5\n", out, 0);
     let across = append_number(width, out, kind);
-    let between = append(b" ", out, across);
+    let between = placing::append(b" ", out, across);
     let down = append_number(height, out, between);
-    append(b"\n255\n", out, down)
+    placing::append(b"\n255\n", out, down)
 }
 
 // The grey values of all pixels into the buffer at a place, as far as there is room; the place after them.

@@ -11,7 +11,7 @@ use Rattle.checks.specs.Sizes.{within, most64}
 use Rattle.checks.specs.declared.Size.{Size}
 use Rattle.checks.specs.declared.Size.the-variants.{Fits, Over}
 use Rattle.checks.proofs.Sizes.{fits-is, over-is}
-use Rattle.summary.proofs.Filled.{filled}
+use Rattle.placing.proofs.Filled.{filled}
 use Rattle.summary.specs.Grey.{greyOf, greyAt}
 
 module _ (l : ℕ) where

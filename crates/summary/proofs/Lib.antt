@@ -1,4 +1,3 @@
-pub mod Filled
 pub mod Greys
 pub mod Lines
 pub mod Tallies

@@ -4,7 +4,7 @@ use mathlib.Core.Path.{_≡_}
 use mathlib.Core.List.{List}
 use lib.ListN.{length, getD, List·getD-eq-default}
 use borrow.Author.Tests.{lt-ltb, le-ltb, eq-eqb, ne-eqb}
-use Rattle.summary.proofs.Filled.{filled}
+use Rattle.placing.proofs.Filled.{filled}
 use Rattle.summary.specs.Marks.{markOf, charAt}
 
 module _ (code : ℕ) where

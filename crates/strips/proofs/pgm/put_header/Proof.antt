@@ -1,6 +1,6 @@
 -- Each part is placed where the one before it ends.
 use borrow.Author.Needs.{needs}
-use Rattle.strips.proofs.Placing.{placing}
+use Rattle.strips.proofs.GreyFile.{grey-file}
 use Rattle.strips.proofs.pgm.put_header.Statement.{statement}
 use Rattle.strips.proofs.pgm.put_header.Tie as tie
 
@@ -32,7 +32,7 @@ same-length : tie.Need-same-length
 same-length c = search needs
 
 returns : tie.Need-returns
-returns c = search placing
+returns c = search grey-file
 
 pub put-header-spec : {M : Type 1} → statement M
 put-header-spec =

@@ -1,6 +1,6 @@
 -- There are no more pixels than the picture has and the room after the start holds.
 use borrow.Author.Needs.{needs}
-use Rattle.strips.proofs.Placing.{placing}
+use Rattle.strips.proofs.GreyFile.{grey-file}
 use Rattle.strips.proofs.pgm.put_pixels.Statement.{statement}
 use Rattle.strips.proofs.pgm.put_pixels.Tie as tie
 
@@ -32,7 +32,7 @@ same-length : tie.Need-same-length
 same-length c = search needs
 
 returns : tie.Need-returns
-returns c = search placing
+returns c = search grey-file
 
 pub put-pixels-spec : {M : Type 1} → statement M
 put-pixels-spec =

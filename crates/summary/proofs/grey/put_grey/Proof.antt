@@ -1,7 +1,7 @@
 -- Each turn puts one grey value after those so far.
 use Prim.Native.Nat.{_-_}
 use lib.ListN.{length}
-use Rattle.summary.proofs.Filled.{Filled}
+use Rattle.placing.proofs.Filled.{Filled}
 use Rattle.summary.specs.Grey.{greyAt}
 use Rattle.summary.proofs.Greys.{greys}
 use Rattle.summary.proofs.grey.put_grey.Statement.{statement}

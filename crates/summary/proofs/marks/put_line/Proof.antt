@@ -1,7 +1,7 @@
 -- Each turn puts one character after those so far.
 use Prim.Native.Nat.{_-_}
 use lib.ListN.{length}
-use Rattle.summary.proofs.Filled.{Filled}
+use Rattle.placing.proofs.Filled.{Filled}
 use Rattle.summary.specs.Marks.{charAt}
 use Rattle.summary.proofs.Lines.{lines}
 use Rattle.summary.proofs.marks.put_line.Statement.{statement}

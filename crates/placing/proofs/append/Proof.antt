@@ -1,8 +1,8 @@
--- What is copied is the whole text.
+-- What is copied is the whole part.
 use borrow.Author.Needs.{needs}
-use Rattle.strips.proofs.Placing.{placing}
-use Rattle.strips.proofs.pgm.append.Statement.{statement}
-use Rattle.strips.proofs.pgm.append.Tie as tie
+use Rattle.placing.proofs.Parts.{parts}
+use Rattle.placing.proofs.append.Statement.{statement}
+use Rattle.placing.proofs.append.Tie as tie
 
 add-end : tie.Need-add-end
 add-end c = search needs
@@ -23,7 +23,7 @@ same-length : tie.Need-same-length
 same-length c = search needs
 
 returns : tie.Need-returns
-returns c = search placing
+returns c = search parts
 
 pub append-spec : {M : Type 1} → statement M
 append-spec =

@@ -1,9 +1,9 @@
 -- Each turn copies one byte more.
 use Prim.Native.Nat.{_-_}
 use lib.ListN.{length}
-use Rattle.summary.proofs.Filled.{Copied, copies}
-use Rattle.strips.proofs.pgm.copy.Statement.{statement}
-use Rattle.strips.proofs.pgm.copy.Tie as tie
+use Rattle.placing.proofs.Filled.{Copied, copies}
+use Rattle.placing.proofs.copy.Statement.{statement}
+use Rattle.placing.proofs.copy.Tie as tie
 
 abbrev Inv-loop : tie.InvT-loop
 Inv-loop from to₀ i₀ to i = Copied from to₀ to i
