@@ -66,15 +66,15 @@ pub joining-none : (f : ℕ → List ℕ) (b n : ℕ) (out : List ℕ) → n * b
 joining-none f b n out h =
     record { upto = omega arith; put = sym (zero-mul b); room = h; long = refl; wrote = rw (sub-zero n) (wrote-none (joined f 0 n) out) }
 
-ahead : (f : ℕ → List ℕ) (n r : ℕ) → r < n → joined f r (n - r) ≡ f r ++ joined f (r + 1) (n - (r + 1))
+pub joined-ahead : (f : ℕ → List ℕ) (n r : ℕ) → r < n → joined f r (n - r) ≡ f r ++ joined f (r + 1) (n - (r + 1))
 unfolding joined
-ahead f n r h =
+joined-ahead f n r h =
     let m : n - r ≡ suc (n - (r + 1)) = omega arith in
     rw (m, add-one r)
 
-none-ahead : (f : ℕ → List ℕ) (n r : ℕ) → n ≤ r → joined f r (n - r) ≡ []
+pub joined-none : (f : ℕ → List ℕ) (n r : ℕ) → n ≤ r → joined f r (n - r) ≡ []
 unfolding joined
-none-ahead f n r h = let z : n - r ≡ 0 = omega arith in rw z
+joined-none f n r h = let z : n - r ≡ 0 = omega arith in rw z
 
 module _ (f : ℕ → List ℕ) (b n : ℕ) (old out : List ℕ) (r o : ℕ) (s : Joining f b n old out r o) where
   module _ (h : r < n) where
@@ -84,7 +84,7 @@ module _ (f : ℕ → List ℕ) (b n : ℕ) (old out : List ℕ) (r o : ℕ) (s 
 
     pub joining-more : (ys : List ℕ) → ys ≡ f r → length ys ≡ b → Joining f b n old (putMid o (o + b - o) out ys) (r + 1) (o + b)
     joining-more ys e l =
-        let w = wrote-part _ _ old out o (s .wrote) b ys _ (rw (← e) at (ahead f n r h)) l joining-fits in
+        let w = wrote-part _ _ old out o (s .wrote) b ys _ (rw (← e) at (joined-ahead f n r h)) l joining-fits in
         record {
           upto = omega arith;
           put = omega (arith, s .put, next-row r b);
@@ -97,7 +97,7 @@ module _ (f : ℕ → List ℕ) (b n : ℕ) (old out : List ℕ) (r o : ℕ) (s 
     pub joining-all : out ≡ overlay (joined f 0 n) old
     joining-all =
         let q : r ≡ n = omega (arith, s .upto) in
-        wrote-all _ old out o (rw (none-ahead f n r h) at (s .wrote)) (joined-length f b n even ∙ ap (λ (m : ℕ). m * b) (sym q) ∙ sym (s .put))
+        wrote-all _ old out o (rw (joined-none f n r h) at (s .wrote)) (joined-length f b n even ∙ ap (λ (m : ℕ). m * b) (sym q) ∙ sym (s .put))
 
     -- a buffer of just that length is the joined list
     pub joining-exactly : length old ≡ n * b → out ≡ joined f 0 n

@@ -5,7 +5,7 @@ use mathlib.Core.List.{List, _++_, append-assoc}
 use native.Mathlib.Omega.{arith}
 use native.Mathlib.Nat.{zero-add}
 use lib.ListN.{length, take, drop, length-append, length-take, length-drop}
-use lib.Seq.{take-at, drop-at, drop-drop, length-take-le}
+use lib.Seq.{take-at, take-all, drop-at, drop-drop, length-take-le}
 use borrow.Author.Needs.{needs}
 use borrow.Rule.Slice.PartMut.{midOf, putMid, mid-len, same-len-mid, post-is}
 use Rattle.lists.specs.Lists.{overlay}
@@ -49,10 +49,6 @@ module _ (new old : List ℕ) (start end : ℕ) (out : List ℕ) (p : BytesPlace
   past : drop end out ≡ drop (start + length new) old
   past = rw (p .bytes, ← append-assoc (take start old) new) (drop-at (take start old ++ new) _ end both)
 
-  -- the bytes themselves
-  pub placed-there : midOf start (end - start) out ≡ new
-  placed-there = let n : end - start ≡ length new = omega (arith, p .ends) in rw (onward, n) (take-at new _ (length new) refl)
-
 -- two parts, one after the other, are one
 pub placed-more : (a b old mid out : List ℕ) (start m end : ℕ) → BytesPlaced a start old m mid → BytesPlaced b m mid end out
     → BytesPlaced (a ++ b) start old end out
@@ -66,6 +62,16 @@ placed-more a b old mid out start m end p q =
       bytes = q .bytes ∙ rw (front a old start m mid p, rest, append-assoc (take start old) a, append-assoc a b);
     }
 
+-- the later of two parts that were placed as one
+pub placed-later : (a b old : List ℕ) (start end : ℕ) (out : List ℕ) → BytesPlaced (a ++ b) start old end out
+    → midOf (start + length a) (end - (start + length a)) out ≡ b
+placed-later a b old start end out p =
+    let n : end - (start + length a) ≡ length b = omega (arith, p .ends, length-append a b) in
+    let there : drop (start + length a) out ≡ b ++ drop (start + length (a ++ b)) old =
+    sym (drop-drop (length a) start out)
+    ∙ rw (onward (a ++ b) old start end out p, append-assoc a b) (drop-at a _ (length a) refl) in
+    rw (there, n) (take-at b _ (length b) refl)
+
 -- from the buffer's start on
 module _ (new old : List ℕ) (end : ℕ) (out : List ℕ) (p : BytesPlaced new 0 old end out) where
   pub placed-first : take end out ≡ new
@@ -74,5 +80,11 @@ module _ (new old : List ℕ) (end : ℕ) (out : List ℕ) (p : BytesPlaced new 
   pub placed-over : out ≡ overlay new old
   unfolding overlay
   placed-over = p .bytes ∙ rw (zero-add (length new))
+
+  -- the whole buffer
+  pub placed-whole : length out ≡ length new → out ≡ new
+  placed-whole l =
+      let all : length out ≤ end = omega (arith, p .ends) in
+      sym (take-all end out all) ∙ placed-first
 
 pub ruleset parts = (appended, placed-over, needs)
