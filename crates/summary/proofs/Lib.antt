@@ -1,3 +1,4 @@
+pub mod Colouring
 pub mod Greys
 pub mod Lines
 pub mod Tallies

@@ -1,2 +1,4 @@
 pub mod Grey
 pub mod Marks
+pub mod Colours
+pub mod Inner

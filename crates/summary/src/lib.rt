@@ -1,4 +1,7 @@
-// What a person is shown of a reading: quality codes counted and drawn as marks, and the L plane as grey values.
+// What a person is shown of a reading: quality codes counted and drawn as marks, the L plane as grey values, and both as colours.
+
+// The number of each pixel's colour.
+pub mod colours;
 
 // The L plane as grey values.
 pub mod grey;

@@ -16,32 +16,8 @@ abbrev μ-loop : tie.MeasureT-loop
 loop-holds : tie.Need-loop-holds Inv-loop μ-loop
 loop-holds c = search greys
 
-mul-low : tie.Need-mul-low Inv-loop μ-loop
-mul-low c = search greys
-
-add-high : tie.Need-add-high Inv-loop μ-loop
-add-high c = search greys
-
-shared-slice-read-wide : tie.Need-shared-slice-read-wide Inv-loop μ-loop
-shared-slice-read-wide c = search greys
-
-wide-requires : tie.Need-wide-requires Inv-loop μ-loop
-wide-requires c κs = search greys
-
-shared-slice-read-wide-2 : tie.Need-shared-slice-read-wide-2 Inv-loop μ-loop
-shared-slice-read-wide-2 c = search greys
-
-wide-requires-2 : tie.Need-wide-requires-2 Inv-loop μ-loop
-wide-requires-2 c κs = search greys
-
-mul-grey-of : tie.Need-mul-grey-of Inv-loop μ-loop
-mul-grey-of c = search greys
-
-add-grey-of : tie.Need-add-grey-of Inv-loop μ-loop
-add-grey-of c = search greys
-
-grey-of-requires : tie.Need-grey-of-requires Inv-loop μ-loop
-grey-of-requires c κs = search greys
+grey-at-requires : tie.Need-grey-at-requires Inv-loop μ-loop
+grey-at-requires c κs = search greys
 
 slice-write-grey : tie.Need-slice-write-grey Inv-loop μ-loop
 slice-write-grey c = search greys
@@ -68,15 +44,7 @@ put-grey-spec =
     Inv-loop
     μ-loop
     loop-holds
-    mul-low
-    add-high
-    shared-slice-read-wide
-    wide-requires
-    shared-slice-read-wide-2
-    wide-requires-2
-    mul-grey-of
-    add-grey-of
-    grey-of-requires
+    grey-at-requires
     slice-write-grey
     add-k
     loop-less

@@ -1,0 +1,27 @@
+-- A number above 0 says that the sides are, and that all pixels are there and have room.
+use Rattle.summary.proofs.Colouring.{coloured}
+use borrow.Author.Needs.{needs}
+use Rattle.summary.proofs.colours.put_colours.Statement.{statement}
+use Rattle.summary.proofs.colours.put_colours.Tie as tie
+
+least-requires : tie.Need-least-requires
+least-requires c κs = search needs
+
+count-requires : tie.Need-count-requires
+count-requires c κs = search needs
+
+returns : tie.Need-returns
+returns c = (search coloured, search coloured)
+
+fill-requires : tie.Need-fill-requires
+fill-requires c κs = search coloured
+
+same-length : tie.Need-same-length
+same-length c = search needs
+
+returns-2 : tie.Need-returns-2
+returns-2 c = (search coloured, search coloured)
+
+pub put-colours-spec : {M : Type 1} → statement M
+put-colours-spec =
+    tie.close (tie.spec least-requires count-requires returns fill-requires same-length returns-2)

@@ -1,0 +1,50 @@
+-- L is the first two bytes of six.
+use Rattle.summary.proofs.Greys.{greys}
+use borrow.Author.Needs.{needs}
+use Rattle.summary.proofs.grey.grey_at.Statement.{statement}
+use Rattle.summary.proofs.grey.grey_at.Tie as tie
+
+mul-low : tie.Need-mul-low
+mul-low c = search needs
+
+add-high : tie.Need-add-high
+add-high c = search needs
+
+shared-slice-read-wide : tie.Need-shared-slice-read-wide
+shared-slice-read-wide c = search needs
+
+wide-requires : tie.Need-wide-requires
+wide-requires c κs = search needs
+
+shared-slice-read-wide-2 : tie.Need-shared-slice-read-wide-2
+shared-slice-read-wide-2 c = search needs
+
+wide-requires-2 : tie.Need-wide-requires-2
+wide-requires-2 c κs = search needs
+
+mul-grey-of : tie.Need-mul-grey-of
+mul-grey-of c = search needs
+
+add-grey-of : tie.Need-add-grey-of
+add-grey-of c = search needs
+
+grey-of-requires : tie.Need-grey-of-requires
+grey-of-requires c κs = search needs
+
+returns : tie.Need-returns
+returns c = search greys
+
+pub grey-at-spec : {M : Type 1} → statement M
+grey-at-spec =
+    tie.close
+    (tie.spec
+    mul-low
+    add-high
+    shared-slice-read-wide
+    wide-requires
+    shared-slice-read-wide-2
+    wide-requires-2
+    mul-grey-of
+    add-grey-of
+    grey-of-requires
+    returns)

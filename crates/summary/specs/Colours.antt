@@ -1,0 +1,25 @@
+-- The number of each pixel's colour in a palette of 253 greys, red, blue and yellow: the grey value where its segment is good, and a colour
+-- where it is not, so that what did not come is never taken for something dark.
+use Prim.Native.Nat.{ℕ, _*_, _/_, _%_}
+use mathlib.Core.List.{List}
+use lib.ListN.{getD}
+use lib.Dec.{ltb, eqb}
+use Rattle.lists.specs.Lists.{pick, lesser}
+use Rattle.geometry.specs.Geometry.{pieces, segmentOf}
+use Rattle.summary.specs.Grey.{greyAt}
+
+-- the brightest greys are one; 254 is outside the file, 255 packets not accepted, and all else is taken for what did not come
+unfoldable pub colourOf : ℕ → ℕ → ℕ
+colourOf code grey = pick (eqb code 1) (lesser grey 252) (pick (eqb code 3) 254 (pick (eqb code 4) 255 253))
+
+-- the segment of pixel p of rows of so many
+unfoldable pub pixelSegment : ℕ → ℕ → ℕ → ℕ → ℕ
+pixelSegment width bw bh p = segmentOf bw bh (pieces width bw) (p % width) (p / width)
+
+unfoldable pub colourAt : List ℕ → List ℕ → ℕ → ℕ → ℕ → ℕ → ℕ
+colourAt picture quality width bw bh p = colourOf (getD quality (pixelSegment width bw bh p) 0) (greyAt picture p)
+
+-- how many pixels are coloured: all, or none where a side is 0 or where they are more than can be
+unfoldable pub colouredIn : ℕ → ℕ → ℕ → ℕ → ℕ → ℕ
+colouredIn width height bw bh most =
+    pick (eqb width 0) 0 (pick (eqb bw 0) 0 (pick (eqb bh 0) 0 (pick (ltb most (width * height)) 0 (width * height))))

@@ -1,0 +1,110 @@
+// The number of each pixel's colour: a grey where its segment is good, else the colour of what came of the segment.
+use crate::grey;
+use checks::Size;
+ghost use mathlib.Core.Path.{_≡_};
+ghost use lib.ListN.{length, getD};
+ghost use Prim.Native.Nat.{_/_, _≤_};
+ghost use Rattle.lists.specs.Lists.{lesser, tabulate, overlay};
+ghost use Rattle.geometry.specs.Geometry.{pieces};
+ghost use Rattle.summary.specs.Colours.{colourOf, pixelSegment, colourAt, colouredIn};
+ghost use Rattle.summary.specs.Inner.{Gridded, Colourable};
+
+fn colour_of(code: u8, grey: u8) -> u8
+    ensures { λ r. ⌜ r ≡ colourOf code grey ⌝ }
+{
+    if code == 1 {
+        return if grey < 252 { grey } else { 252 };
+    }
+    if code == 3 {
+        return 254;
+    }
+    if code == 4 { 255 } else { 253 }
+}
+
+// A segment's code, 0 where there is none.
+fn code_at(quality: &[u8], k: usize) -> u8
+    ensures { λ r. ⌜ r ≡ getD (now (quality .entry)) k 0 ⌝ }
+{
+    if k < quality.len() { quality[k] } else { 0 }
+}
+
+fn segment_of(
+    width: usize,
+    across: usize,
+    block_width: usize,
+    block_height: usize,
+    p: usize,
+) -> usize
+    requires { ⌜ Gridded width «block_width» «block_height» × (across ≡ pieces width «block_width») × (across ≤ width) ⌝ }
+    ensures { λ r. ⌜ r ≡ pixelSegment width «block_width» «block_height» p ⌝ }
+{
+    p / width / block_height * across + p % width / block_width
+}
+
+// The colours of the first n pixels.
+fn fill(
+    picture: &[u8],
+    quality: &[u8],
+    width: usize,
+    block_width: usize,
+    block_height: usize,
+    n: usize,
+    out: &mut [u8],
+)
+    requires { ⌜ Colourable width «block_width» «block_height» n (length (now picture)) (length (now out)) ⌝ }
+    ensures { λ _.
+        ⌜ now (out .exit) ≡ overlay (tabulate n (colourAt (now (picture .entry)) (now (quality .entry)) width «block_width» «block_height»))
+        (now (out .entry)) ⌝ }
+{
+    let across = geometry::pieces_of(width, block_width);
+    let mut p: usize = 0;
+    while p < n {
+        let k = segment_of(width, across, block_width, block_height, p);
+        out[p] = colour_of(code_at(quality, k), grey::grey_at(picture, p));
+        p += 1;
+    }
+}
+
+// How many pixels there are, or 0 where a side is 0 or where they are more than can be.
+fn count(width: usize, height: usize, block_width: usize, block_height: usize, most: usize) -> usize
+    ensures { λ r. ⌜ r ≡ colouredIn width height «block_width» «block_height» most ⌝ }
+{
+    if width == 0 {
+        return 0;
+    }
+    if block_width == 0 {
+        return 0;
+    }
+    if block_height == 0 {
+        return 0;
+    }
+    let Size::Fits(n) = checks::product(width, height) else {
+        return 0;
+    };
+    if most < n { 0 } else { n }
+}
+
+// The colours of all pixels at the start of the buffer, and how many there are. Where there are none the buffer stays.
+pub fn put_colours(
+    picture: &[u8],
+    quality: &[u8],
+    width: usize,
+    height: usize,
+    block_width: usize,
+    block_height: usize,
+    out: &mut [u8],
+) -> usize
+    ensures answer { λ r.
+        ⌜ r ≡ colouredIn width height «block_width» «block_height» (lesser (length (now (picture .entry)) / 6) (length (now (out .entry)))) ⌝ }
+    ensures buffer { λ r.
+        ⌜ now (out .exit) ≡ overlay (tabulate r (colourAt (now (picture .entry)) (now (quality .entry)) width «block_width» «block_height»))
+        (now (out .entry)) ⌝ }
+{
+    let most = records::least(picture.len() / 6, out.len());
+    let n = count(width, height, block_width, block_height, most);
+    if n == 0 {
+        return 0;
+    }
+    fill(picture, quality, width, block_width, block_height, n, out);
+    n
+}
