@@ -1,3 +1,4 @@
+pub mod ColourFile
 pub mod Decimals
 pub mod GreyFile
 pub mod Lengths

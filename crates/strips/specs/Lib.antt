@@ -1,1 +1,2 @@
 pub mod Pgm
+pub mod PngFile

@@ -15,7 +15,9 @@ pub fn usage() {
     text(
         b"  MAP   its delivery map, a byte for each block of 512 bytes, 1 where the block came; without it the picture came whole\n",
     );
-    text(b"  OUT   where to write L as a grey picture (PGM)\n");
+    text(
+        b"  OUT   where to write L as a picture: NAME.png in grey, and in red, blue or yellow what is not good; NAME.pgm in grey alone\n",
+    );
 }
 
 pub fn too_many(given: usize) {
@@ -29,6 +31,19 @@ pub fn too_many(given: usize) {
 pub fn long_name(i: usize) {
     number(b"strips: argument ", i);
     text(b" is longer than the name of a file can be\n");
+}
+
+// Nothing is read where it is not clear what is to be written.
+pub fn ending(name: &[u8]) {
+    text(b"strips: cannot tell what to write: '");
+    text(name);
+    text(b"' ends in neither .png nor .pgm\n");
+}
+
+pub fn no_room(name: &[u8]) {
+    text(b"strips: cannot write '");
+    text(name);
+    text(b"': there is no room here for so large a PNG file\n");
 }
 
 // A call on a file failed, and the system knows why.

@@ -1,5 +1,5 @@
 // strips FILE [MAP [OUT]]: reads a picture of which not every block came, and says for each segment what came of it. With OUT it
-// writes the L plane as a grey picture.
+// writes the L plane as a picture, by the ending of OUT in grey or with a colour for each segment that is not good.
 use header::Limits;
 use load::Loaded;
 use patchy::Reading;
@@ -7,6 +7,7 @@ use patchy::Sizes;
 use summary::marks;
 ghost use mathlib.Core.Path.{_≡_};
 ghost use lib.ListN.{length};
+ghost use Prim.Native.Nat.{_≤_};
 ghost use Rattle.io.specs.Counts.{Counts};
 
 // What went wrong.
@@ -18,11 +19,17 @@ mod load;
 // The grey picture's file.
 mod pgm;
 
+// The picture with colours.
+mod png_file;
+
 // The refusals in words.
 mod refusal;
 
 // What came of a reading.
 mod report;
+
+// A file that is written.
+mod save;
 
 // Text and numbers.
 mod say;
@@ -42,6 +49,14 @@ const SEGMENTS: usize = 65536;
 const WITH_MAP: usize = 3;
 
 const WITH_OUT: usize = 4;
+
+// What is to be written.
+enum Kind {
+    Nothing,
+    Pgm,
+    Png,
+    Unknown,
+}
 
 // Each contract of these three gives the length, which lending the array as a slice needs.
 fn new_file() -> [u8; FILE]
@@ -102,12 +117,13 @@ fn map_of(name: &[u8], given: usize, blocks: usize, map: &mut [u8]) -> Loaded
 }
 
 // The blocks, the refusal and the charge. There is nothing to write then.
-fn report_refusal(out: &[u8], given: usize, map: &[u8], number: u8, left: usize) {
+fn report_refusal(out: &[u8], kind: Kind, map: &[u8], number: u8, left: usize) {
     report::put_blocks(map);
     refusal::put(number, limits());
     report::put_charge(left);
-    if given == WITH_OUT {
-        report::put_unwritten(out);
+    match kind {
+        Kind::Nothing => {}
+        _ => report::put_unwritten(out),
     }
 }
 
@@ -120,8 +136,25 @@ fn report_picture(map: &[u8], sizes: Sizes, quality: &[u8], left: usize) {
     report::put_charge(left);
 }
 
-// Reads the picture, reports what came of it, and writes the grey picture where it is asked for.
-fn show(out: &[u8], given: usize, file: &[u8], map: &[u8]) {
+fn write_picture(
+    kind: Kind,
+    out: &[u8],
+    sizes: Sizes,
+    quality: &[u8],
+    picture: &mut [u8],
+    scratch: &mut [u8],
+)
+    requires { ⌜ 49 ≤ length (now scratch) ⌝ }
+{
+    match kind {
+        Kind::Pgm => pgm::write(out, picture, sizes, scratch),
+        Kind::Png => png_file::write(out, quality, sizes, picture, scratch),
+        _ => {}
+    }
+}
+
+// Reads the picture, reports what came of it, and writes it where that is asked for.
+fn show(out: &[u8], kind: Kind, file: &[u8], map: &[u8]) {
     let mut output = new_room();
     let mut scratch = new_room();
     let mut quality = io::large_buffer();
@@ -135,18 +168,16 @@ fn show(out: &[u8], given: usize, file: &[u8], map: &[u8]) {
         &mut scratch,
         &mut quality,
     ) {
-        Reading::Refused(number, left) => report_refusal(out, given, map, number, left),
+        Reading::Refused(number, left) => report_refusal(out, kind, map, number, left),
         Reading::Picture(sizes, left) => {
             report_picture(map, sizes, &quality, left);
-            if given == WITH_OUT {
-                pgm::write(out, &output, sizes, &mut scratch);
-            }
+            write_picture(kind, out, sizes, &quality, &mut output, &mut scratch);
         }
     }
 }
 
 // Both files are read before anything is reported.
-fn run(name: &[u8], map_name: &[u8], out: &[u8], given: usize) {
+fn run(name: &[u8], map_name: &[u8], out: &[u8], given: usize, kind: Kind) {
     let mut file = new_file();
     let loaded = load::load(b"strips: cannot read the picture '", name, &mut file);
     let n = loaded.size;
@@ -162,7 +193,7 @@ fn run(name: &[u8], map_name: &[u8], out: &[u8], given: usize) {
     let m = delivered.size;
     if delivered.good {
         report::put_name(name);
-        show(out, given, &file[..n], &map[..m]);
+        show(out, kind, &file[..n], &map[..m]);
     }
 }
 
@@ -184,6 +215,36 @@ fn argument(i: usize, name: &mut [u8]) -> Loaded
     }
 }
 
+fn ends_in(name: &[u8], a: u8, b: u8, c: u8) -> bool {
+    let n = name.len();
+    if n < 4 {
+        return false;
+    }
+    name[n - 4] == b'.' && name[n - 3] == a && name[n - 2] == b && name[n - 1] == c
+}
+
+fn kind_of(given: usize, out: &[u8]) -> Kind {
+    if given < WITH_OUT {
+        return Kind::Nothing;
+    }
+    if ends_in(out, b'p', b'n', b'g') {
+        return Kind::Png;
+    }
+    if ends_in(out, b'p', b'g', b'm') {
+        return Kind::Pgm;
+    }
+    Kind::Unknown
+}
+
+// Where it is not clear what to write, nothing is read.
+fn run_for(name: &[u8], map_name: &[u8], out: &[u8], given: usize) {
+    let kind = kind_of(given, out);
+    match kind {
+        Kind::Unknown => complain::ending(out),
+        _ => run(name, map_name, out, given, kind),
+    }
+}
+
 fn start(given: usize) {
     let mut name = io::buffer();
     let mut map = io::buffer();
@@ -195,7 +256,7 @@ fn start(given: usize) {
     let m = second.size;
     let o = third.size;
     if first.good && second.good && third.good {
-        run(&name[..n], &map[..m], &out[..o], given);
+        run_for(&name[..n], &map[..m], &out[..o], given);
     }
 }
 

@@ -1,6 +1,5 @@
 // The grey picture as a file (PGM): a header in text, and a byte for each pixel.
-use crate::complain;
-use crate::say;
+use crate::save;
 use patchy::Sizes;
 use summary::grey;
 ghost use mathlib.Core.Path.{_≡_};
@@ -54,41 +53,10 @@ fn put_file(picture: &[u8], width: usize, height: usize, out: &mut [u8]) -> usiz
     put_pixels(picture, width, height, start, out)
 }
 
-fn write_file(name: &[u8], file: &[u8]) -> bool {
-    let fd = os::open_overwrite(name);
-    if fd < 0 {
-        complain::failed(b"strips: cannot write '", name);
-        return false;
-    }
-    if !io::write_all(fd, file) {
-        complain::failed(b"strips: cannot write the whole of '", name);
-        libc::close(fd);
-        return false;
-    }
-    if libc::close(fd) < 0 {
-        complain::failed(b"strips: cannot write the whole of '", name);
-        return false;
-    }
-    true
-}
-
-fn tell(name: &[u8], sizes: Sizes, file: &[u8]) {
-    say::text(b"  written   ");
-    say::text(name);
-    say::number(b": PGM, ", sizes.width);
-    say::number(b" x ", sizes.height);
-    say::number(b", ", file.len());
-    say::text(b" bytes, CRC-32 ");
-    say::sum(file);
-    say::text(b"\n");
-}
-
 // Makes the file in a buffer, whose bytes are lost, and writes it.
 pub fn write(name: &[u8], picture: &[u8], sizes: Sizes, room: &mut [u8])
     requires { ⌜ 49 ≤ length (now room) ⌝ }
 {
     let n = put_file(picture, sizes.width, sizes.height, room);
-    if write_file(name, &room[..n]) {
-        tell(name, sizes, &room[..n]);
-    }
+    save::save(name, b": PGM, ", sizes, &room[..n]);
 }

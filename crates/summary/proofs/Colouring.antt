@@ -155,6 +155,14 @@ pub none-over : (f : ℕ → ℕ) (old : List ℕ) → old ≡ overlay (tabulate
 unfolding overlay span
 none-over f old = refl
 
+-- never more than can be
+pub coloured-most : (width height bw bh most : ℕ) → colouredIn width height bw bh most ≤ most
+coloured-most width height bw bh most = by (eqb (colouredIn width height bw bh most) 0) refl
+  where
+    by : (b : Bool) → eqb (colouredIn width height bw bh most) 0 ≡ b → colouredIn width height bw bh most ≤ most
+    by true t = omega (arith, eqb-true (colouredIn width height bw bh most) 0 t)
+    by false t = colours-few width height bw bh most _ refl (eqb-false (colouredIn width height bw bh most) 0 t)
+
 pub ruleset coloured = (colours-room, counted-in, none-in, none-over, needs)
 
 -- For readers: a pixel's segment is that of its bytes in the picture's output
