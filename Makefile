@@ -1,13 +1,14 @@
 # What people run here. `make` alone says what there is.
 .PHONY: help demo strips strips-test test more vectors vectors-write format lib install uninstall install-test
-.PHONY: readme face rust compare faults bench worst
+.PHONY: png readme face rust compare faults bench worst
 # Targets share the library and target/; rt and cargo use all processors by themselves.
 .NOTPARALLEL:
 
 help:
-	@echo "make demo           the camera's picture without one block: what came of each strip; the grey picture goes to target/demo.pgm"
+	@echo "make demo           the camera's picture without one block: what came of each strip, and pictures in target/demo.png and target/demo.pgm"
 	@echo 'make strips         prove and build the program bin/strips, which reports what came of a picture'
 	@echo 'make strips-test    run it on whole, patchy and broken pictures, and compare what it prints'
+	@echo 'make png            have another reader read the PNG files that it writes (needs python3, netpbm)'
 	@echo 'make test           prove every crate from nothing, try every must-fail edit, run every program: the gate'
 	@echo 'make more           what the gate does not run: every other test of this list, without the two measurements at its end (some minutes)'
 	@echo 'make vectors        compute the expected answers of the vectors anew, compare, and try mistakes against them (needs python3)'
@@ -34,9 +35,15 @@ strips:
 demo: strips
 	@{ head -c 44 /dev/zero | tr '\0' '\1'; printf '\0'; head -c 40 /dev/zero | tr '\0' '\1'; } >target/demo.map
 	bin/strips $(CAMERA) target/demo.map target/demo.pgm
+	@bin/strips $(CAMERA) target/demo.map target/demo.png | tail -n 1
+	@cmp -s target/demo.png docs/demo.png || { echo 'target/demo.png differs from docs/demo.png, which is the same picture as it was committed'; exit 1; }
 
 strips-test: strips
 	tests/strips.sh
+
+png: strips
+	@tools/need netpbm
+	tests/png.sh
 
 test:
 	@.ci/run

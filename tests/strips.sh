@@ -91,10 +91,22 @@ prints 'no argument' <<'END'
 usage: strips FILE [MAP [OUT]]
   FILE  a LogLuv TIFF picture
   MAP   its delivery map, a byte for each block of 512 bytes, 1 where the block came; without it the picture came whole
-  OUT   where to write L as a grey picture (PGM)
+  OUT   where to write L as a picture: NAME.png in grey, and in red, blue or yellow what is not good; NAME.pgm in grey alone
 END
 prints 'too many arguments' camera.tif one-block-lost.map grey.pgm more <<'END'
 strips: at most three names are taken, FILE, MAP and OUT, and here are 4
+END
+prints 'another ending' nothing.tif nothing.map grey.tif <<'END'
+strips: cannot tell what to write: 'grey.tif' ends in neither .png nor .pgm
+END
+prints 'an ending in capitals' camera.tif one-block-lost.map grey.PNG <<'END'
+strips: cannot tell what to write: 'grey.PNG' ends in neither .png nor .pgm
+END
+prints 'an ending without its dot' camera.tif one-block-lost.map png <<'END'
+strips: cannot tell what to write: 'png' ends in neither .png nor .pgm
+END
+prints 'an empty name' camera.tif one-block-lost.map '' <<'END'
+strips: cannot tell what to write: '' ends in neither .png nor .pgm
 END
 prints 'a name that is too long' camera.tif "$(bytes 5000 120)" <<'END'
 strips: argument 2 is longer than the name of a file can be
@@ -166,8 +178,15 @@ camera.tif
   charged   0 units
   written   nothing to grey.pgm, as there is no picture
 END
-[ ! -e grey.pgm ]
-note $? 'after a refusal and after a wrong map there is no grey picture'
+prints 'nothing came, and no PNG is written' camera.tif all-lost.map picture.png <<'END'
+camera.tif
+  blocks    85, of which 85 did not come
+  refused   8, NotArrived: the header, a directory or a value is in a block that did not come
+  charged   0 units
+  written   nothing to picture.png, as there is no picture
+END
+[ ! -e grey.pgm ] && [ ! -e picture.png ]
+note $? 'after a refusal and after a wrong map there is no picture'
 
 # ---- pictures
 prints 'without a map' camera.tif <<'END'
@@ -182,7 +201,10 @@ camera.tif
         0   packets not accepted (4)
   charged   6186992 units
 END
-prints 'one block lost' camera.tif one-block-lost.map grey.pgm <"$root/crates/strips/stdout"
+prints 'one block lost' camera.tif one-block-lost.map picture.png <"$root/crates/strips/stdout"
+sed '$d' "$root/crates/strips/stdout" >report
+{ cat report && echo '  written   grey.pgm: PGM, 640 x 480, 307215 bytes, CRC-32 a8d41b5d'; } >reported
+prints 'the same in grey alone' camera.tif one-block-lost.map grey.pgm <reported
 head -c 15 grey.pgm >header
 printf 'P5\n640 480\n255\n' | cmp -s - header
 note $? "the grey picture's header"
@@ -198,6 +220,14 @@ note $? 'the other strips are as they are in the whole picture'
 cmp -s grey.pgm whole.pgm
 [ $? -eq 1 ]
 note $? 'the lost one is not black there'
+# Rows are stored from byte 823 on, one of 640 pixels in 651 bytes.
+tail -c +162272 picture.png | head -c 5208 >lost-strip
+k=0
+while [ "$k" -lt 8 ]; do
+    printf '\000\001\000\376\377\000\000\200\002\177\375' && bytes 640 253
+    k=$((k + 1))
+done | cmp -s - lost-strip
+note $? 'the lost strip is red'
 bytes 2 1 >both-came.map
 prints 'every quality, in three lines' tall.tif both-came.map tall.pgm <<'END'
 tall.tif
@@ -216,6 +246,18 @@ tall.tif
 END
 { printf 'P5\n1 130\n255\n' && bytes 75 129 && bytes 3 0 && bytes 52 129; } | cmp -s - tall.pgm
 note $? 'each grey value, a negative one among them'
+"$strips" tall.tif both-came.map tall.png >got 2>&1
+echo '  written   tall.png: PNG, 1 x 130, 2408 bytes, CRC-32 0bf9ea26' >want
+tail -n 1 got | cmp -s - want
+note $? 'its PNG'
+tail -c +824 tall.png >rows
+k=0
+while [ "$k" -lt 130 ]; do
+    tail -c +$((12 * k + 12)) rows | head -c 1
+    k=$((k + 1))
+done >colours
+{ bytes 75 129 && bytes 1 254 && bytes 1 255 && bytes 1 0 && bytes 52 129; } | cmp -s - colours
+note $? 'each colour, grey 0 for the negative value among them'
 { bytes 1 1 && bytes 1 2; } >second-lost.map
 prints 'a map byte of 2 is not 1' tall.tif second-lost.map <<'END'
 tall.tif
@@ -233,13 +275,17 @@ tall.tif
 END
 
 # ---- where nothing can be written
-sed '$d' "$root/crates/strips/stdout" >report
-{ cat report && echo "strips: cannot write 'nowhere/grey.pgm': No such file or directory"; } >unwritten
-prints 'a grey picture in a folder that is not there' camera.tif one-block-lost.map nowhere/grey.pgm <unwritten
-{ cat report && echo "strips: cannot write '.': Is a directory"; } >unwritten
-prints 'a folder for a grey picture' camera.tif one-block-lost.map . <unwritten
-{ cat report && echo "strips: cannot write the whole of '/dev/full': No space left on device"; } >unwritten
-prints 'a grey picture on a full device' camera.tif one-block-lost.map /dev/full <unwritten
+mkdir folder.png folder.pgm
+ln -s /dev/full full.png
+ln -s /dev/full full.pgm
+for kind in png pgm; do
+    { cat report && echo "strips: cannot write 'nowhere/a.$kind': No such file or directory"; } >unwritten
+    prints "a $kind file in a folder that is not there" camera.tif one-block-lost.map "nowhere/a.$kind" <unwritten
+    { cat report && echo "strips: cannot write 'folder.$kind': Is a directory"; } >unwritten
+    prints "a folder for a $kind file" camera.tif one-block-lost.map "folder.$kind" <unwritten
+    { cat report && echo "strips: cannot write the whole of 'full.$kind': No space left on device"; } >unwritten
+    prints "a $kind file on a full device" camera.tif one-block-lost.map "full.$kind" <unwritten
+done
 
 # ---- the launcher
 mkdir bin

@@ -1,0 +1,68 @@
+#!/bin/sh
+# Has another reader, netpbm's pngtopnm, read the PNG files that bin/strips writes, and compares every pixel with what the PGM file and the
+# quality say. The last line is 'N passed, M failed'; the exit status is 1 where something failed.
+root=$(cd "$(dirname "$0")/.." && pwd -P)
+strips=$root/bin/strips
+model=$root/tests/png.py
+room=$(mktemp -d)
+trap 'rm -rf "$room"' EXIT
+passed=0
+failed=0
+
+note() { # whether it passed, what was tried
+    if [ "$1" -eq 0 ]; then
+        passed=$((passed + 1))
+    else
+        failed=$((failed + 1))
+        echo "FAILED: $2"
+    fi
+}
+
+same() { # what is tried, picture, map
+    if ! "$strips" "$2" "$3" "$room/a.png" >"$room/report" || ! grep -q '^  written   .*: PNG' "$room/report"; then
+        note 1 "$1: nothing was written"
+        return
+    fi
+    "$strips" "$2" "$3" "$room/a.pgm" >/dev/null
+    pngtopnm "$room/a.png" >"$room/seen" 2>"$room/said"
+    note $? "$1: pngtopnm says $(cat "$room/said")"
+    said=$(python3 "$model" compare "$room/report" "$room/a.pgm" "$room/seen" 2>&1)
+    note $? "$1: $said"
+    echo "$1: $said"
+}
+
+ones() { head -c "$1" /dev/zero | tr '\0' '\1'; }
+blocks_of() { echo $((($(wc -c <"$1") + 511) / 512)); }
+
+# All blocks came, and all but one, for each or for some at a distance; a block whose loss is refused, as it holds the directory, says
+# nothing of the PNG.
+each_block() { # what is tried, picture, distance
+    blocks=$(blocks_of "$2")
+    ones "$blocks" >"$room/map"
+    same "$1, whole" "$2" "$room/map"
+    lost=0
+    while [ "$lost" -lt "$blocks" ]; do
+        { ones "$lost" && printf '\0' && ones $((blocks - lost - 1)); } >"$room/map"
+        if "$strips" "$2" "$room/map" | grep -q '^  pixels'; then
+            same "$1, without block $lost" "$2" "$room/map"
+        fi
+        lost=$((lost + $3))
+    done
+}
+
+data=$root/crates/strips/data
+same 'the camera, without block 44' "$data/camera.tif" "$data/one-block-lost.map"
+
+python3 "$model" pictures "$room" || exit 2
+same 'every code' "$room/codes.tif" "$room/codes.map"
+each_block 'one row' "$room/wide.tif" 40
+each_block 'one column' "$room/tall.tif" 1
+
+libtiff=$root/crates/vectors/data/pictures
+each_block 'tiles that stand over' "$libtiff/t03_33x47_t32x16_b.tif" 1
+each_block 'tiles with negative values' "$libtiff/t05_50x20_t32x16_neg_l.tif" 1
+each_block 'a short last strip' "$libtiff/s13_40x30_rps7_neg_b.tif" 1
+each_block 'one pixel' "$libtiff/s01_1x1_l.tif" 1
+
+echo "$passed passed, $failed failed"
+[ "$failed" -eq 0 ]
