@@ -1,0 +1,2 @@
+pub mod Adlers
+pub mod Streams

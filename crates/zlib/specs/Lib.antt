@@ -1,0 +1,3 @@
+pub mod Adler
+pub mod Stream
+pub mod Inner
