@@ -2,17 +2,17 @@
 use Prim.Native.Nat.{ℕ, _/_, _≤_}
 use mathlib.Core.Path.{_≡_, refl, sym, ap, _∙_}
 use mathlib.Core.Bool.{Bool, true, false}
-use mathlib.Core.List.{List, []}
+use mathlib.Core.List.{List}
 use native.Mathlib.Omega.{arith}
 use lib.Dec.{eqb}
 use lib.ListN.{length, take}
 use lib.Seq.{take-at, length-take-le}
 use borrow.Author.Needs.{needs}
 use borrow.Author.Tests.{eqb-true, eqb-false}
-use Rattle.lists.specs.Lists.{pick, lesser, tabulate, overlay}
+use Rattle.lists.specs.Lists.{lesser, tabulate, overlay}
 use Rattle.lists.proofs.Lesser.{lesser-min}
 use Rattle.lists.proofs.Overlay.{length-span, overlay-length}
-use Rattle.summary.specs.Colours.{colourAt, colouredIn}
+use Rattle.summary.specs.Colours.{colourAt}
 use Rattle.summary.proofs.Colouring.{coloured-most}
 use Rattle.png.specs.Png.{pngOf, pngSize, pngOver}
 use Rattle.png.proofs.Sizes.{size-within, size-is-length}
