@@ -1,5 +1,5 @@
 -- A pixel's colour by its segment's code, and the colours of a picture one after the other.
-use Prim.Native.Nat.{ℕ, _+_, _*_, _/_, _%_, _^_, _<_, _≤_}
+use Prim.Native.Nat.{ℕ, _+_, _-_, _*_, _/_, _%_, _^_, _<_, _≤_}
 use mathlib.Core.Path.{_≡_, refl, sym, _∙_}
 use mathlib.Core.Bool.{Bool, true, false}
 use mathlib.Core.List.{List}
@@ -17,30 +17,47 @@ use Rattle.lists.proofs.Wrote.{fills}
 use Rattle.checks.specs.Sizes.{most64}
 use Rattle.checks.proofs.Sizes.{Known, fits-is, over-is}
 use Rattle.geometry.specs.Geometry.{pieces, byteSegment}
-use Rattle.summary.specs.Grey.{greyAt}
-use Rattle.summary.specs.Colours.{colourOf, pixelSegment, colourAt, colouredIn}
+use Rattle.summary.specs.Grey.{lightAt}
+use Rattle.summary.specs.Colours.{toneOf, colourOf, pixelSegment, colourAt, colouredIn}
 use Rattle.summary.specs.Inner.{Gridded, Colourable}
 
-module _ (code grey : ℕ) where
-  pub good-grey : code ≡ 1 → grey < 252 → grey ≡ colourOf code grey
+module _ (l : ℕ) where
+  pub tone-dark : l < 12288 → 0 ≡ toneOf l
+  unfolding toneOf
+  tone-dark h =
+      let none : l - 12288 ≡ 0 = omega arith in
+      rw (lt-ltb l 32768 (omega arith), none)
+
+  pub tone-light : l < 32768 → (l - 12288) / 32 ≡ toneOf l
+  unfolding toneOf
+  tone-light h = rw (lt-ltb _ _ h)
+
+  pub tone-negative : 32768 ≤ l → 0 ≡ toneOf l
+  unfolding toneOf
+  tone-negative h = rw (le-ltb _ _ h)
+
+pub ruleset tones = (tone-dark, tone-light, tone-negative, needs)
+
+module _ (code tone : ℕ) where
+  pub good-grey : code ≡ 1 → tone < 252 → tone ≡ colourOf code tone
   unfolding colourOf
   good-grey e h = rw (eq-eqb _ _ e, lt-ltb _ _ h)
 
-  pub good-bright : code ≡ 1 → 252 ≤ grey → 252 ≡ colourOf code grey
+  pub good-bright : code ≡ 1 → 252 ≤ tone → 252 ≡ colourOf code tone
   unfolding colourOf
   good-bright e h = rw (eq-eqb _ _ e, le-ltb _ _ h)
 
   module _ (n : code ≡ 1 → ⊥) where
-    pub outside-blue : code ≡ 3 → 254 ≡ colourOf code grey
+    pub outside-blue : code ≡ 3 → 254 ≡ colourOf code tone
     unfolding colourOf
     outside-blue e = rw (ne-eqb _ _ n, eq-eqb _ _ e)
 
     module _ (m : code ≡ 3 → ⊥) where
-      pub packets-yellow : code ≡ 4 → 255 ≡ colourOf code grey
+      pub packets-yellow : code ≡ 4 → 255 ≡ colourOf code tone
       unfolding colourOf
       packets-yellow e = rw (ne-eqb _ _ n, ne-eqb _ _ m, eq-eqb _ _ e)
 
-      pub lost-red : (code ≡ 4 → ⊥) → 253 ≡ colourOf code grey
+      pub lost-red : (code ≡ 4 → ⊥) → 253 ≡ colourOf code tone
       unfolding colourOf
       lost-red k = rw (ne-eqb _ _ n, ne-eqb _ _ m, ne-eqb _ _ k)
 
@@ -68,10 +85,10 @@ module _ (width across bw bh p : ℕ) where
 pub ruleset segments = (row-fits, segment-fits, segment-known, needs)
 
 -- one pixel more
-pub colour-known : (picture quality : List ℕ) (width bw bh p : ℕ) {k code grey r : ℕ} → k ≡ pixelSegment width bw bh p → code ≡ getD quality k 0
-    → grey ≡ greyAt picture p → r ≡ colourOf code grey → r ≡ colourAt picture quality width bw bh p
+pub colour-known : (picture quality : List ℕ) (width bw bh p : ℕ) {k code l tone r : ℕ} → k ≡ pixelSegment width bw bh p → code ≡ getD quality k 0
+    → l ≡ lightAt picture p → tone ≡ toneOf l → r ≡ colourOf code tone → r ≡ colourAt picture quality width bw bh p
 unfolding colourAt
-colour-known picture quality width bw bh p ek ec eg er = er ∙ rw (ec, ek, eg)
+colour-known picture quality width bw bh p ek ec el et er = er ∙ rw (ec, ek, et, el)
 
 pub ruleset colouring = (colour-known, fills, needs)
 
@@ -171,15 +188,15 @@ unfolding byteSegment pixelSegment
 segment-of-bytes width bw bh k = refl
 
 -- A grey is shown exactly where the code is good: a pixel that did not come is never taken for a dark one.
-pub good-is-grey : (code grey : ℕ) → code ≡ 1 → colourOf code grey ≤ 252
+pub good-is-grey : (code tone : ℕ) → code ≡ 1 → colourOf code tone ≤ 252
 unfolding colourOf
-good-is-grey code grey e = rw (eq-eqb code 1 e) (omega (arith, lesser-min grey 252))
+good-is-grey code tone e = rw (eq-eqb code 1 e) (omega (arith, lesser-min tone 252))
 
-pub grey-is-good : (code grey : ℕ) → colourOf code grey ≤ 252 → code ≡ 1
+pub grey-is-good : (code tone : ℕ) → colourOf code tone ≤ 252 → code ≡ 1
 unfolding colourOf
-grey-is-good code grey = by (eqb code 1) (eqb code 3) (eqb code 4) refl
+grey-is-good code tone = by (eqb code 1) (eqb code 3) (eqb code 4) refl
   where
-    by : (a b c : Bool) → eqb code 1 ≡ a → pick a (lesser grey 252) (pick b 254 (pick c 255 253)) ≤ 252 → code ≡ 1
+    by : (a b c : Bool) → eqb code 1 ≡ a → pick a (lesser tone 252) (pick b 254 (pick c 255 253)) ≤ 252 → code ≡ 1
     by true b c e h = eqb-true code 1 e
     by false true c e h = absurd (omega arith)
     by false false true e h = absurd (omega arith)

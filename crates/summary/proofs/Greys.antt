@@ -12,7 +12,7 @@ use Rattle.checks.specs.declared.Size.{Size}
 use Rattle.checks.specs.declared.Size.the-variants.{Fits, Over}
 use Rattle.checks.proofs.Sizes.{fits-is, over-is}
 use Rattle.placing.proofs.Filled.{filled}
-use Rattle.summary.specs.Grey.{greyOf, greyAt}
+use Rattle.summary.specs.Grey.{greyOf, lightAt, greyAt}
 
 module _ (l : ℕ) where
   pub grey-light : l < 32768 → l / 128 ≡ greyOf l
@@ -23,10 +23,13 @@ module _ (l : ℕ) where
   unfolding greyOf
   grey-black h = rw (le-ltb _ _ h)
 
-pub grey-read : (picture : List ℕ) (k : ℕ) {a b r : ℕ} → a ≡ getD picture (6 * k) 0 → b ≡ getD picture (6 * k + 1) 0 → r ≡ greyOf (a + 256 * b)
-    → r ≡ greyAt picture k
-unfolding greyAt
-grey-read picture k p q e = e ∙ rw (p, q)
+pub light-read : (picture : List ℕ) (k : ℕ) {a b : ℕ} → a ≡ getD picture (6 * k) 0 → b ≡ getD picture (6 * k + 1) 0
+    → a + 256 * b ≡ lightAt picture k
+unfolding lightAt
+light-read picture k p q = rw (p, q)
+
+pub grey-known : (picture : List ℕ) (k : ℕ) {l r : ℕ} → l ≡ lightAt picture k → r ≡ greyOf l → r ≡ greyAt picture k
+grey-known picture k el er = er ∙ rw el
 
 -- the number of pixels, where the product is known and where it is above all numbers
 module _ {s : Size} (a b most : ℕ) (e : s ≡ within (a * b)) where
@@ -36,4 +39,4 @@ module _ {s : Size} (a b most : ℕ) (e : s ≡ within (a * b)) where
   pub pixels-over : s ≡ Over → most ≤ most64 → most ≡ lesser (a * b) most
   pixels-over q h = lesser-second (a * b) most (omega (arith, over-is (a * b) e q))
 
-pub ruleset greys = (grey-light, grey-black, grey-read, pixels-known, filled)
+pub ruleset greys = (grey-light, grey-black, light-read, grey-known, pixels-known, filled)

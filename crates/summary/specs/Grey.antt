@@ -9,9 +9,12 @@ use Rattle.lists.specs.Lists.{pick, lesser}
 unfoldable pub greyOf : ℕ → ℕ
 greyOf l = pick (ltb l 32768) (l / 128) 0
 
--- the grey value of pixel k of a picture, whose L is the first two of its six bytes, the lower one first
-unfoldable pub greyAt : List ℕ → ℕ → ℕ
-greyAt picture k = greyOf (getD picture (6 * k) 0 + 256 * getD picture (6 * k + 1) 0)
+-- L of pixel k of a picture: the first two of its six bytes, the lower one first
+unfoldable pub lightAt : List ℕ → ℕ → ℕ
+lightAt picture k = getD picture (6 * k) 0 + 256 * getD picture (6 * k + 1) 0
+
+abbrev pub greyAt : List ℕ → ℕ → ℕ
+greyAt picture k = greyOf (lightAt picture k)
 
 -- how many pixels are shown: all, as far as the picture's bytes and the room go
 abbrev pub pixelsIn : ℕ → ℕ → ℕ → ℕ → ℕ

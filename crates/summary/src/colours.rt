@@ -6,14 +6,23 @@ ghost use lib.ListN.{length, getD};
 ghost use Prim.Native.Nat.{_/_, _≤_};
 ghost use Rattle.lists.specs.Lists.{lesser, tabulate, overlay};
 ghost use Rattle.geometry.specs.Geometry.{pieces};
-ghost use Rattle.summary.specs.Colours.{colourOf, pixelSegment, colourAt, colouredIn};
+ghost use Rattle.summary.specs.Colours.{toneOf, colourOf, pixelSegment, colourAt, colouredIn};
 ghost use Rattle.summary.specs.Inner.{Gridded, Colourable};
 
-fn colour_of(code: u8, grey: u8) -> u8
-    ensures { λ r. ⌜ r ≡ colourOf code grey ⌝ }
+fn tone_of(l: usize) -> usize
+    ensures { λ r. ⌜ r ≡ toneOf l ⌝ }
+{
+    if l < 12288 {
+        return 0;
+    }
+    if l < 32768 { (l - 12288) / 32 } else { 0 }
+}
+
+fn colour_of(code: u8, tone: usize) -> u8
+    ensures { λ r. ⌜ r ≡ colourOf code tone ⌝ }
 {
     if code == 1 {
-        return if grey < 252 { grey } else { 252 };
+        return if tone < 252 { tone as u8 } else { 252 };
     }
     if code == 3 {
         return 254;
@@ -60,7 +69,7 @@ fn fill(
     let mut p: usize = 0;
     while p < n {
         let k = segment_of(width, across, block_width, block_height, p);
-        out[p] = colour_of(code_at(quality, k), grey::grey_at(picture, p));
+        out[p] = colour_of(code_at(quality, k), tone_of(grey::light_at(picture, p)));
         p += 1;
     }
 }

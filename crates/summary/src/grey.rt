@@ -4,7 +4,7 @@ ghost use mathlib.Core.Path.{_≡_};
 ghost use Prim.Native.Nat.{_+_, _*_, _≤_};
 ghost use lib.ListN.{length};
 ghost use Rattle.lists.specs.Lists.{lesser, tabulate};
-ghost use Rattle.summary.specs.Grey.{greyOf, greyAt};
+ghost use Rattle.summary.specs.Grey.{greyOf, lightAt, greyAt};
 
 fn grey_of(l: usize) -> u8
     ensures { λ r. ⌜ r ≡ greyOf l ⌝ }
@@ -12,13 +12,14 @@ fn grey_of(l: usize) -> u8
     if l < 32768 { (l / 128) as u8 } else { 0 }
 }
 
-pub fn grey_at(picture: &[u8], k: usize) -> u8
+// L of a pixel.
+pub fn light_at(picture: &[u8], k: usize) -> usize
     requires { ⌜ 6 * k + 6 ≤ length (now picture) ⌝ }
-    ensures { λ r. ⌜ r ≡ greyAt (now (picture .entry)) k ⌝ }
+    ensures { λ r. ⌜ r ≡ lightAt (now (picture .entry)) k ⌝ }
 {
     let low = 6 * k;
     let high = low + 1;
-    grey_of(records::wide(picture[low]) + 256 * records::wide(picture[high]))
+    records::wide(picture[low]) + 256 * records::wide(picture[high])
 }
 
 // A grey value for each pixel, as many as are lent.
@@ -28,7 +29,7 @@ pub fn put_grey(picture: &[u8], grey: &mut [u8])
 {
     let mut k: usize = 0;
     while k < grey.len() {
-        grey[k] = grey_at(picture, k);
+        grey[k] = grey_of(light_at(picture, k));
         k += 1;
     }
 }

@@ -1,7 +1,11 @@
 -- The tests decide which colour it is.
 use Rattle.summary.proofs.Colouring.{codes}
+use borrow.Author.Needs.{needs}
 use Rattle.summary.proofs.colours.colour_of.Statement.{statement}
 use Rattle.summary.proofs.colours.colour_of.Tie as tie
+
+cast-result : tie.Need-cast-result
+cast-result c = search needs
 
 returns : tie.Need-returns
 returns c = search codes
@@ -19,4 +23,4 @@ returns-5 : tie.Need-returns-5
 returns-5 c = search codes
 
 pub colour-of-spec : {M : Type 1} → statement M
-colour-of-spec = tie.close (tie.spec returns returns-2 returns-3 returns-4 returns-5)
+colour-of-spec = tie.close (tie.spec cast-result returns returns-2 returns-3 returns-4 returns-5)

@@ -25,8 +25,11 @@ segment-of-requires c κs = search needs
 code-at-requires : tie.Need-code-at-requires Inv-loop μ-loop
 code-at-requires c κs = search needs
 
-grey-at-requires : tie.Need-grey-at-requires Inv-loop μ-loop
-grey-at-requires c κs = search needs
+light-at-requires : tie.Need-light-at-requires Inv-loop μ-loop
+light-at-requires c κs = search needs
+
+tone-of-requires : tie.Need-tone-of-requires Inv-loop μ-loop
+tone-of-requires c κs = search needs
 
 colour-of-requires : tie.Need-colour-of-requires Inv-loop μ-loop
 colour-of-requires c κs = search needs
@@ -59,7 +62,8 @@ fill-spec =
     loop-holds
     segment-of-requires
     code-at-requires
-    grey-at-requires
+    light-at-requires
+    tone-of-requires
     colour-of-requires
     slice-write-out
     add-p

@@ -1,4 +1,5 @@
 -- Each turn puts one grey value after those so far.
+use borrow.Author.Needs.{needs}
 use Prim.Native.Nat.{_-_}
 use lib.ListN.{length}
 use Rattle.placing.proofs.Filled.{Filled}
@@ -16,8 +17,11 @@ abbrev μ-loop : tie.MeasureT-loop
 loop-holds : tie.Need-loop-holds Inv-loop μ-loop
 loop-holds c = search greys
 
-grey-at-requires : tie.Need-grey-at-requires Inv-loop μ-loop
-grey-at-requires c κs = search greys
+light-at-requires : tie.Need-light-at-requires Inv-loop μ-loop
+light-at-requires c κs = search needs
+
+grey-of-requires : tie.Need-grey-of-requires Inv-loop μ-loop
+grey-of-requires c κs = search needs
 
 slice-write-grey : tie.Need-slice-write-grey Inv-loop μ-loop
 slice-write-grey c = search greys
@@ -44,7 +48,8 @@ put-grey-spec =
     Inv-loop
     μ-loop
     loop-holds
-    grey-at-requires
+    light-at-requires
+    grey-of-requires
     slice-write-grey
     add-k
     loop-less

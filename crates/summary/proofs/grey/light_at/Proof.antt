@@ -1,8 +1,8 @@
 -- L is the first two bytes of six.
 use Rattle.summary.proofs.Greys.{greys}
 use borrow.Author.Needs.{needs}
-use Rattle.summary.proofs.grey.grey_at.Statement.{statement}
-use Rattle.summary.proofs.grey.grey_at.Tie as tie
+use Rattle.summary.proofs.grey.light_at.Statement.{statement}
+use Rattle.summary.proofs.grey.light_at.Tie as tie
 
 mul-low : tie.Need-mul-low
 mul-low c = search needs
@@ -22,20 +22,17 @@ shared-slice-read-wide-2 c = search needs
 wide-requires-2 : tie.Need-wide-requires-2
 wide-requires-2 c κs = search needs
 
-mul-grey-of : tie.Need-mul-grey-of
-mul-grey-of c = search needs
+mul-result : tie.Need-mul-result
+mul-result c = search needs
 
-add-grey-of : tie.Need-add-grey-of
-add-grey-of c = search needs
-
-grey-of-requires : tie.Need-grey-of-requires
-grey-of-requires c κs = search needs
+add-result : tie.Need-add-result
+add-result c = search needs
 
 returns : tie.Need-returns
 returns c = search greys
 
-pub grey-at-spec : {M : Type 1} → statement M
-grey-at-spec =
+pub light-at-spec : {M : Type 1} → statement M
+light-at-spec =
     tie.close
     (tie.spec
     mul-low
@@ -44,7 +41,6 @@ grey-at-spec =
     wide-requires
     shared-slice-read-wide-2
     wide-requires-2
-    mul-grey-of
-    add-grey-of
-    grey-of-requires
+    mul-result
+    add-result
     returns)
