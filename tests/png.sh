@@ -1,6 +1,6 @@
 #!/bin/sh
-# Has another reader, netpbm's pngtopnm, read the PNG files that bin/strips writes, and compares every pixel with what the PGM file and the
-# quality say. The last line is 'N passed, M failed'; the exit status is 1 where something failed.
+# Has another reader, netpbm's pngtopnm, read the PNG files that bin/strips writes, and compares every pixel with what the models of the
+# rules say. The last line is 'N passed, M failed'; the exit status is 1 where something failed.
 root=$(cd "$(dirname "$0")/.." && pwd -P)
 strips=$root/bin/strips
 model=$root/tests/png.py
@@ -23,10 +23,9 @@ same() { # what is tried, picture, map
         note 1 "$1: nothing was written"
         return
     fi
-    "$strips" "$2" "$3" "$room/a.pgm" >/dev/null
     pngtopnm "$room/a.png" >"$room/seen" 2>"$room/said"
     note $? "$1: pngtopnm says $(cat "$room/said")"
-    said=$(python3 "$model" compare "$room/report" "$room/a.pgm" "$room/seen" 2>&1)
+    said=$(python3 "$model" compare "$2" "$3" "$room/seen" 2>&1)
     note $? "$1: $said"
     echo "$1: $said"
 }

@@ -247,7 +247,7 @@ END
 { printf 'P5\n1 130\n255\n' && bytes 75 129 && bytes 3 0 && bytes 52 129; } | cmp -s - tall.pgm
 note $? 'each grey value, a negative one among them'
 "$strips" tall.tif both-came.map tall.png >got 2>&1
-echo '  written   tall.png: PNG, 1 x 130, 2408 bytes, CRC-32 0bf9ea26' >want
+echo '  written   tall.png: PNG, 1 x 130, 2408 bytes, CRC-32 3d0f158a' >want
 tail -n 1 got | cmp -s - want
 note $? 'its PNG'
 tail -c +824 tall.png >rows
@@ -256,7 +256,7 @@ while [ "$k" -lt 130 ]; do
     tail -c +$((12 * k + 12)) rows | head -c 1
     k=$((k + 1))
 done >colours
-{ bytes 75 129 && bytes 1 254 && bytes 1 255 && bytes 1 0 && bytes 52 129; } | cmp -s - colours
+{ bytes 75 132 && bytes 1 254 && bytes 1 255 && bytes 1 0 && bytes 52 132; } | cmp -s - colours
 note $? 'each colour, grey 0 for the negative value among them'
 { bytes 1 1 && bytes 1 2; } >second-lost.map
 prints 'a map byte of 2 is not 1' tall.tif second-lost.map <<'END'
