@@ -41,8 +41,9 @@ demo: strips
 strips-test: strips
 	tests/strips.sh
 
-png: strips
-	@tools/need netpbm
+png:
+	@tools/need netpbm python3
+	@$(MAKE) --no-print-directory strips
 	tests/png.sh
 
 test:
