@@ -34,9 +34,10 @@ strips:
 # Block 44 of 85 is lost, which has bytes of strip 31 alone.
 demo: strips
 	@{ head -c 44 /dev/zero | tr '\0' '\1'; printf '\0'; head -c 40 /dev/zero | tr '\0' '\1'; } >target/demo.map
-	bin/strips $(CAMERA) target/demo.map target/demo.pgm
-	@bin/strips $(CAMERA) target/demo.map target/demo.png | tail -n 1
-	@cmp -s target/demo.png docs/demo.png || { echo 'target/demo.png differs from docs/demo.png, which is the same picture as it was committed'; exit 1; }
+	@for kind in pgm png; do bin/strips $(CAMERA) target/demo.map target/demo.$$kind >target/demo.$$kind.txt; done
+	@{ cat target/demo.pgm.txt; tail -n 1 target/demo.png.txt; } | tee target/demo.txt
+	@cmp -s target/demo.png docs/demo.png || { echo 'target/demo.png differs from docs/demo.png, the picture that README shows'; exit 1; }
+	@sed -n '/^```text$$/,/^```$$/p' README.md | sed -e 1d -e '$$d' | cmp -s - target/demo.txt || { echo 'README shows another report'; exit 1; }
 
 strips-test: strips
 	tests/strips.sh
