@@ -12,8 +12,8 @@ use borrow.Author.Tests.{eqb-true, eqb-false}
 use Rattle.lists.specs.Lists.{lesser, tabulate, overlay}
 use Rattle.lists.proofs.Lesser.{lesser-min}
 use Rattle.lists.proofs.Overlay.{length-span, overlay-length}
-use Rattle.summary.specs.Colours.{colourAt}
-use Rattle.summary.proofs.Colouring.{coloured-most}
+use Rattle.colours.specs.Colours.{colourAt}
+use Rattle.colours.proofs.Colouring.{coloured-most}
 use Rattle.png.specs.Png.{pngOf, pngSize, pngOver}
 use Rattle.png.proofs.Sizes.{size-within, size-is-length}
 use Rattle.strips.specs.PngFile.{coloursIn, pngFileOf}

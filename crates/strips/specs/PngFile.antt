@@ -4,7 +4,7 @@ use mathlib.Core.List.{List, []}
 use lib.Dec.{eqb}
 use lib.ListN.{length}
 use Rattle.lists.specs.Lists.{pick, lesser, tabulate}
-use Rattle.summary.specs.Colours.{colourAt, colouredIn}
+use Rattle.colours.specs.Colours.{colourAt, colouredIn}
 use Rattle.png.specs.Png.{pngOf, pngSize}
 
 -- how many colours are made, in so much room

@@ -2,7 +2,6 @@
 use crate::complain;
 use crate::save;
 use patchy::Sizes;
-use summary::colours;
 ghost use mathlib.Core.Path.{_≡_};
 ghost use lib.ListN.{length, take};
 ghost use Rattle.io.specs.Counts.{Counts};

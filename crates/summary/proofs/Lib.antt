@@ -1,4 +1,3 @@
-pub mod Colouring
 pub mod Greys
 pub mod Lines
 pub mod Tallies

@@ -1,4 +1,2 @@
 pub mod Grey
 pub mod Marks
-pub mod Colours
-pub mod Inner

@@ -1,7 +1,4 @@
-// What a person is shown of a reading: quality codes counted and drawn as marks, the L plane as grey values, and both as colours.
-
-// The number of each pixel's colour.
-pub mod colours;
+// What a person is shown of a reading: quality codes counted and drawn as marks, and the L plane as grey values.
 
 // The L plane as grey values.
 pub mod grey;

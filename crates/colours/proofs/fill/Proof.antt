@@ -1,11 +1,11 @@
 -- Each turn puts one colour after those so far.
 use Prim.Native.Nat.{_-_}
 use Rattle.lists.proofs.Wrote.{Filling}
-use Rattle.summary.specs.Colours.{colourAt}
-use Rattle.summary.proofs.Colouring.{colouring}
+use Rattle.colours.specs.Colours.{colourAt}
+use Rattle.colours.proofs.Colouring.{colouring}
 use borrow.Author.Needs.{needs}
-use Rattle.summary.proofs.colours.fill.Statement.{statement}
-use Rattle.summary.proofs.colours.fill.Tie as tie
+use Rattle.colours.proofs.fill.Statement.{statement}
+use Rattle.colours.proofs.fill.Tie as tie
 
 abbrev Inv-loop : tie.InvT-loop
 Inv-loop picture quality width block-width block-height n out₀ across p₀ out p = Filling (colourAt picture quality width block-width block-height) n out₀ out p

@@ -17,9 +17,9 @@ use Rattle.lists.proofs.Wrote.{fills}
 use Rattle.checks.specs.Sizes.{most64}
 use Rattle.checks.proofs.Sizes.{Known, fits-is, over-is}
 use Rattle.geometry.specs.Geometry.{pieces, byteSegment}
 use Rattle.summary.specs.Grey.{lightAt}
-use Rattle.summary.specs.Colours.{toneOf, colourOf, pixelSegment, colourAt, colouredIn}
-use Rattle.summary.specs.Inner.{Gridded, Colourable}
+use Rattle.colours.specs.Colours.{toneOf, colourOf, pixelSegment, colourAt, colouredIn}
+use Rattle.colours.specs.Inner.{Gridded, Colourable}
 
 module _ (l : ℕ) where
   pub tone-dark : l < 12288 → 0 ≡ toneOf l

@@ -1,8 +1,8 @@
 -- The number of a segment is at most that of its pixels.
-use Rattle.summary.proofs.Colouring.{segments}
+use Rattle.colours.proofs.Colouring.{segments}
 use borrow.Author.Needs.{needs}
-use Rattle.summary.proofs.colours.segment_of.Statement.{statement}
-use Rattle.summary.proofs.colours.segment_of.Tie as tie
+use Rattle.colours.proofs.segment_of.Statement.{statement}
+use Rattle.colours.proofs.segment_of.Tie as tie
 
 div-result : tie.Need-div-result
 div-result c = search needs

@@ -1,8 +1,8 @@
 -- The tests decide which colour it is.
-use Rattle.summary.proofs.Colouring.{codes}
+use Rattle.colours.proofs.Colouring.{codes}
 use borrow.Author.Needs.{needs}
-use Rattle.summary.proofs.colours.colour_of.Statement.{statement}
-use Rattle.summary.proofs.colours.colour_of.Tie as tie
+use Rattle.colours.proofs.colour_of.Statement.{statement}
+use Rattle.colours.proofs.colour_of.Tie as tie
 
 cast-result : tie.Need-cast-result
 cast-result c = search needs

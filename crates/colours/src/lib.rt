@@ -1,13 +1,13 @@
 // The number of each pixel's colour: a grey where its segment is good, else the colour of what came of the segment.
-use crate::grey;
 use checks::Size;
+use summary::grey;
 ghost use mathlib.Core.Path.{_≡_};
 ghost use lib.ListN.{length, getD};
 ghost use Prim.Native.Nat.{_/_, _≤_};
 ghost use Rattle.lists.specs.Lists.{lesser, tabulate, overlay};
 ghost use Rattle.geometry.specs.Geometry.{pieces};
-ghost use Rattle.summary.specs.Colours.{toneOf, colourOf, pixelSegment, colourAt, colouredIn};
-ghost use Rattle.summary.specs.Inner.{Gridded, Colourable};
+ghost use Rattle.colours.specs.Colours.{toneOf, colourOf, pixelSegment, colourAt, colouredIn};
+ghost use Rattle.colours.specs.Inner.{Gridded, Colourable};
 
 fn tone_of(l: usize) -> usize
     ensures { λ r. ⌜ r ≡ toneOf l ⌝ }

@@ -1,8 +1,8 @@
 -- Past the last code it is as if the code were 0.
-use Rattle.summary.proofs.Colouring.{codes}
+use Rattle.colours.proofs.Colouring.{codes}
 use borrow.Author.Needs.{needs}
-use Rattle.summary.proofs.colours.code_at.Statement.{statement}
-use Rattle.summary.proofs.colours.code_at.Tie as tie
+use Rattle.colours.proofs.code_at.Statement.{statement}
+use Rattle.colours.proofs.code_at.Tie as tie
 
 shared-slice-read-result : tie.Need-shared-slice-read-result
 shared-slice-read-result c = search needs

@@ -1,8 +1,8 @@
 -- A number above 0 says that the sides are, and that all pixels are there and have room.
-use Rattle.summary.proofs.Colouring.{coloured}
+use Rattle.colours.proofs.Colouring.{coloured}
 use borrow.Author.Needs.{needs}
-use Rattle.summary.proofs.colours.put_colours.Statement.{statement}
-use Rattle.summary.proofs.colours.put_colours.Tie as tie
+use Rattle.colours.proofs.put_colours.Statement.{statement}
+use Rattle.colours.proofs.put_colours.Tie as tie
 
 least-requires : tie.Need-least-requires
 least-requires c κs = search needs

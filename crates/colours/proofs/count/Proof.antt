@@ -1,8 +1,8 @@
 -- The tests are those of the definition, in its order.
-use Rattle.summary.proofs.Colouring.{counting}
+use Rattle.colours.proofs.Colouring.{counting}
 use borrow.Author.Needs.{needs}
-use Rattle.summary.proofs.colours.count.Statement.{statement}
-use Rattle.summary.proofs.colours.count.Tie as tie
+use Rattle.colours.proofs.count.Statement.{statement}
+use Rattle.colours.proofs.count.Tie as tie
 
 returns : tie.Need-returns
 returns c = search counting
