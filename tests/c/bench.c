@@ -287,7 +287,7 @@ int main(int arguments, char **argument)
     print_times(contents);
     print_speeds(contents);
     least = least_ratio(contents);
-    printf("\nThe least of the ratios is %.2f, %s %.1f of libtiff's speed that is asked for.\n", least,
-           least >= wanted ? "not below the" : "BELOW THE", wanted);
+    printf("\nThe least of the ratios is %.2f%s; `make bench` fails where it is below %.1f.\n", least,
+           least >= wanted ? "" : ", TOO LOW", wanted);
     return least >= wanted ? 0 : 1;
 }
