@@ -1,10 +1,10 @@
 -- What strict reading leaves in the lent buffers: the definition's picture, pixel by pixel, what came after it as it was, and scratch zeroed.
-use Prim.Native.Nat.{ℕ, zero, suc, _+_, _*_, _/_, _%_, _<_, _≤_}
+use Prim.Native.Nat.{ℕ, _+_, _*_, _/_, _%_, _<_, _≤_}
 use mathlib.Core.Path.{_≡_, refl, _∙_}
 use mathlib.Core.List.{List}
 use native.Mathlib.Omega.{arith}
-use lib.ListN.{length, getD, replicate, length-replicate}
-use Rattle.lists.proofs.Overlay.{overlay-new, overlay-old, overlay-length}
+use lib.ListN.{length, getD, length-replicate}
+use Rattle.lists.proofs.Overlay.{only-zeros, overlay-new, overlay-old, overlay-length}
 use Rattle.lists.proofs.Counters.{grouped-in}
 use Rattle.checks.specs.declared.Told.the-variants as told-is
 use Rattle.seen.specs.Seen.{Seen}
@@ -53,12 +53,6 @@ pixel-of-good v f ok x y c column row byte good =
     let zero-th : 0 * bw + x % bw ≡ x % bw = omega arith in
     let first : 1 * bw + x % bw ≡ bw + x % bw = omega arith in
     rw (zero-th, first) (pixel-shown v f ok x y c column row byte (planes-length v f k (packets-fill v f k .1 (good .packets))))
-
--- in a list of zeros, and after it, there is nothing but 0
-pub only-zeros : (n k : ℕ) → getD (replicate {A = ℕ} n 0) k 0 ≡ 0
-only-zeros zero k = refl
-only-zeros (suc n) zero = refl
-only-zeros (suc n) (suc k) = only-zeros n k
 
 -- the picture of a page that is fine, over the output, and the part of scratch that is asked for cleared
 module _ (v : Seen) (page : ℕ) (l : Limits) (fine : PictureFine v page l) (output scratch : List ℕ) where

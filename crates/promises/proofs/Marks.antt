@@ -6,7 +6,7 @@ use mathlib.Core.List.{List, []}
 use native.Mathlib.Omega.{arith}
 use lib.ListN.{length, getD, replicate, length-replicate}
 use Rattle.lists.specs.Lists.{tabulate, overlay}
-use Rattle.lists.proofs.Overlay.{length-span, getD-tabulate, overlay-new, overlay-old}
+use Rattle.lists.proofs.Overlay.{only-zeros, length-span, getD-tabulate, overlay-new, overlay-old}
 use Rattle.seen.specs.Seen.{Seen, seen}
 use Rattle.geometry.specs.Geometry.{segmentOf, localOf}
 use Rattle.front.specs.Front.{formatSeen}
@@ -23,7 +23,7 @@ use Rattle.promises.specs.Strict.{Good, pixelSeen}
 use Rattle.promises.specs.Patchy.{Call, view, pageFormat, outputThen, scratchThen, qualityThen, Answered, Reads, MarkedGood, definedPixel, PixelOf, segmentHere, placeHere, ShowsPixel, Blank}
 use Rattle.promises.proofs.Strict.{page-valid, page-readable}
 use Rattle.promises.proofs.Patchy.{reading-exact}
-use Rattle.promises.proofs.Decoded.{segment-below, pixel-of-good, only-zeros}
+use Rattle.promises.proofs.Decoded.{segment-below, pixel-of-good}
 use Rattle.promises.proofs.Own.{format-own, pixel-own}
 use Rattle.promises.proofs.Codes.{code-good, good-shown, other-blank}
 

@@ -3,3 +3,4 @@ pub mod Words
 pub mod Alike
 pub mod Maps
 pub mod Own
+pub mod Arrivals

@@ -3,9 +3,9 @@ use Prim.Native.Nat.{ℕ, zero, suc, _+_, _-_, _*_, _/_, _<_, _≤_}
 use mathlib.Core.Path.{_≡_}
 use mathlib.Core.List.{List, [], _∷_}
 use mathlib.Core.Bool.{Bool, true, false}
-use lib.ListN.{length, getD}
+use lib.ListN.{length, getD, set, replicate}
 use lib.Dec.{ltb, leb, eqb}
-use Rattle.lists.specs.Lists.{pick}
+use Rattle.lists.specs.Lists.{pick, lesser}
 use Rattle.checks.specs.Numbers.{truncated, notArrived, mapSize}
 use Rattle.checks.specs.Checks.{Check, must}
 use Rattle.seen.specs.declared.Reach.{Reach}
@@ -23,13 +23,31 @@ blockOf i = i / 512
 abbrev pub blocksIn : ℕ → ℕ
 blocksIn size = (size + 511) / 512
 
+-- where a block begins, and how many bytes it has in a file of this size: the last one has the rest
+abbrev pub blockStart : ℕ → ℕ
+blockStart b = b * 512
+
+abbrev pub blockLength : ℕ → ℕ → ℕ
+blockLength size b = lesser 512 (size - blockStart b)
+
 -- the map has one byte a block: 1 for arrived, all else not (rule 8.2)
 unfoldable pub blockCame : List ℕ → ℕ → Bool
 blockCame map b = eqb (getD map b 0) 1
 
--- a map is as long as the file has blocks; one of length 0 stands for a file that came whole (rules 8.2 and 8.3)
+-- a map by which no block came, and one by which this block came too
+abbrev pub noneCame : ℕ → List ℕ
+noneCame n = replicate n 0
+
+unfoldable pub alsoCame : ℕ → List ℕ → List ℕ
+alsoCame b map = set map b 1
+
+-- so long is the map of a file of this size
+abbrev pub mapLength : ℕ → ℕ
+mapLength size = blocksIn size
+
+-- a map of length 0 stands for a file that came whole (rules 8.2 and 8.3)
 abbrev pub mapChecks : ℕ → ℕ → List Check
-mapChecks size n = must (pick (eqb n 0) true (eqb n (blocksIn size))) mapSize ∷ []
+mapChecks size n = must (pick (eqb n 0) true (eqb n (mapLength size))) mapSize ∷ []
 
 -- no map is lent where all of a file is at hand
 unfoldable pub arrived : List ℕ → ℕ → Bool

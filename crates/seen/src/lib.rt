@@ -4,13 +4,48 @@ ghost use mathlib.Core.Path.{_≡_};
 ghost use Prim.Native.Nat.{_-_, _<_};
 ghost use lib.ListN.{length};
 ghost use Rattle.checks.specs.Checks.{verdict};
-ghost use Rattle.seen.specs.Seen.{seen, mapChecks, blockCame, arrived, whole, reachOf, there};
+ghost use Rattle.seen.specs.Seen.{seen, blocksIn, blockLength, mapLength, mapChecks, blockCame, alsoCame, arrived, whole, reachOf, there};
 
 // Where the bytes asked for are: in the file and arrived, not all in the file, or in it and not all arrived.
 pub enum Reach {
     Inside,
     Outside,
     Missing,
+}
+
+// How many blocks a file of this size has.
+pub fn blocks_in(size: usize) -> usize
+    ensures { λ r. ⌜ r ≡ blocksIn size ⌝ }
+{
+    if size % 512 == 0 {
+        size / 512
+    } else {
+        size / 512 + 1
+    }
+}
+
+// How many bytes a block has in a file of this size.
+pub fn block_length(size: usize, block: usize) -> usize
+    requires { ⌜ block < blocksIn size ⌝ }
+    ensures { λ r. ⌜ r ≡ blockLength size block ⌝ }
+{
+    let rest = size - block * 512;
+    if 512 < rest { 512 } else { rest }
+}
+
+// How long the map of a file of this size is: a byte for each block.
+pub fn map_length(size: usize) -> usize
+    ensures { λ r. ⌜ r ≡ mapLength size ⌝ }
+{
+    blocks_in(size)
+}
+
+// The map says from now on that a block came.
+pub fn mark_came(map: &mut [u8], block: usize)
+    requires { ⌜ block < length (now map) ⌝ }
+    ensures { λ _. ⌜ now (map .exit) ≡ alsoCame block (now (map .entry)) ⌝ }
+{
+    map[block] = 1;
 }
 
 // Whether the map says that a block came.
@@ -82,7 +117,7 @@ pub fn check_map(file: &[u8], map: &[u8]) -> Verdict
     if map.len() == 0 {
         return Verdict::Fine;
     }
-    if map.len() == (file.len() + 511) / 512 {
+    if map.len() == map_length(file.len()) {
         Verdict::Fine
     } else {
         Verdict::Refused(checks::MAP_SIZE)

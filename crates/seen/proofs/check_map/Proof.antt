@@ -6,8 +6,8 @@ use Rattle.seen.proofs.check_map.Tie as tie
 returns : tie.Need-returns
 returns c = search maps
 
-add-if2 : tie.Need-add-if2
-add-if2 c = search maps
+map-length-requires : tie.Need-map-length-requires
+map-length-requires c κs = search maps
 
 returns-2 : tie.Need-returns-2
 returns-2 c = search maps
@@ -16,4 +16,4 @@ returns-3 : tie.Need-returns-3
 returns-3 c = search maps
 
 pub check-map-spec : {M : Type 1} → statement M
-check-map-spec = tie.close (tie.spec returns add-if2 returns-2 returns-3)
+check-map-spec = tie.close (tie.spec returns map-length-requires returns-2 returns-3)
