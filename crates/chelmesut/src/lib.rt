@@ -7,6 +7,8 @@ use patchy::Reading;
 ghost use Rattle.face_words.specs.Words.{limitsOf};
 ghost use Rattle.chelmesut.specs.Face.{Inspect, Decode, ReadPatchy};
 ghost use Rattle.face_leaves.specs.Leaves.{WorkLimit, Predictor64, Predictor3};
+ghost use Rattle.receiver.specs.Trace.{start, block};
+ghost use Rattle.face_receiver.specs.Reception.{Receive, Replay};
 
 // Strict inspection.
 #[no_mangle]
@@ -174,6 +176,49 @@ pub extern "C" fn chelmesut_work_limit(
         max_segments,
     );
     face_leaves::bound(page, limits, limit)
+}
+
+// The receiver: a picture begins.
+#[no_mangle]
+pub extern "C" fn chelmesut_receive_start(
+    file: &mut [u8],
+    map: &mut [u8],
+    receiver: &mut [usize; 2],
+    length: usize,
+) -> usize
+    ensures { λ r. ⌜ Receive (now (file .entry)) (now (map .entry)) (now (receiver .entry)) (start length)
+        r (now (file .exit)) (now (map .exit)) (now (receiver .exit)) ⌝ }
+{
+    face_receiver::start(file, map, receiver, length)
+}
+
+// The receiver: a block comes.
+#[no_mangle]
+pub extern "C" fn chelmesut_receive_block(
+    file: &mut [u8],
+    map: &mut [u8],
+    receiver: &mut [usize; 2],
+    number: usize,
+    bytes: &[u8],
+) -> usize
+    ensures { λ r. ⌜ Receive (now (file .entry)) (now (map .entry)) (now (receiver .entry)) (block number (now (bytes .entry)))
+        r (now (file .exit)) (now (map .exit)) (now (receiver .exit)) ⌝ }
+{
+    face_receiver::block(file, map, receiver, number, bytes)
+}
+
+// The receiver: a recorded trace, message by message.
+#[no_mangle]
+pub extern "C" fn chelmesut_replay(
+    trace: &[u8],
+    file: &mut [u8],
+    map: &mut [u8],
+    receiver: &mut [usize; 2],
+) -> usize
+    ensures { λ r. ⌜ Replay (now (file .entry)) (now (map .entry)) (now (receiver .entry)) (now (trace .entry))
+        r (now (file .exit)) (now (map .exit)) (now (receiver .exit)) ⌝ }
+{
+    face_receiver::replay(trace, file, map, receiver)
 }
 
 // The 64-bit integer predictor.
