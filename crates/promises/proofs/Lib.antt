@@ -18,3 +18,4 @@ pub mod Whole
 pub mod Lending
 pub mod Witness
 pub mod Demands
+pub mod Bus

@@ -6,3 +6,4 @@ pub mod StrictCall
 pub mod Patchy
 pub mod Witness
 pub mod Demands
+pub mod Bus

@@ -21,8 +21,8 @@ use Rattle.checks.specs.declared.Verdict.{Verdict}
 use Rattle.checks.specs.declared.Verdict.the-variants.{Fine, Refused}
 use Rattle.seen.specs.Seen.{blocksIn, blockStart, blockLength, mapLength, alsoCame}
 use Rattle.receiver.specs.declared.Receiver.{Receiver}
-use Rattle.receiver.specs.Trace.{start, block}
-use Rattle.receiver.specs.Receiver.{Reception, lent, sufficesFor, blockChecks, Suffice, Admits, answerTo, accepted, received, Answers}
+use Rattle.receiver.specs.Trace.{Message, start, block}
+use Rattle.receiver.specs.Receiver.{Reception, lent, sufficesFor, startChecks, blockChecks, Suffice, Admits, answerTo, accepted, onFine, received, Answers}
 use Rattle.receiver.specs.Inner.{HasPlace, Placed}
 
 -- the two buffers
@@ -155,3 +155,31 @@ pub placed : (number at end : ℕ) (bytes file file′ map map′ : List ℕ) �
 placed number at end bytes file file′ map map′ p m = record { file-is = p .bytes; map-is = m }
 
 pub ruleset places = (placed, needs)
+
+-- which answer it is decides what a message leaves
+module _ (m : Message) (s : Reception) where
+  pub fine-takes : answerTo m s ≡ Fine → received m s ≡ accepted m s
+  unfolding received
+  fine-takes e = rw e
+
+  pub refused-leaves : (answerTo m s ≡ Fine → ⊥) → received m s ≡ s
+  unfolding received
+  refused-leaves not-fine = by (answerTo m s) refl
+    where
+      by : (v : Verdict) → answerTo m s ≡ v → onFine v (accepted m s) s ≡ s
+      by Fine e = absurd (not-fine e)
+      by (Refused n) e = refl
+
+-- a start is accepted exactly if the buffers suffice, a block exactly if it is one of the picture's
+module _ (s : Reception) where
+  pub start-accepted : (size : ℕ) → (answerTo (start size) s ≡ Fine) ↔ Suffice size (length (s .file)) (length (s .map))
+  unfolding answerTo Holds
+  start-accepted size =
+      let both = suffices-exact size (length (s .file)) (length (s .map)) in
+      let checks = startChecks size (length (s .file)) (length (s .map)) in
+      (λ e. both .0 (fine checks .0 e .0), λ h. fine checks .1 (both .1 h, tt))
+
+  pub block-accepted : (number : ℕ) (bytes : List ℕ)
+      → (answerTo (block number bytes) s ≡ Fine) ↔ Admits (s .receiver) number (length bytes) (length (s .file)) (length (s .map))
+  unfolding answerTo
+  block-accepted number bytes = block-exact (s .receiver) number (length bytes) (length (s .file)) (length (s .map))

@@ -70,7 +70,7 @@ module _ (t : List ℕ) {n : Next} (en : n ≡ nextOf t) where
   block-there number size e = subst (Whole (length t)) (sym en ∙ e) (next-whole t)
 
   -- the messages of the trace, by the first one
-  begins : (m : Next) → n ≡ m → traceOf t ≡ beginsWith m (drop 1 t) (traceOf (drop (suc (lengthOf m)) t))
+  pub begins : (m : Next) → n ≡ m → traceOf t ≡ beginsWith m (drop 1 t) (traceOf (drop (suc (lengthOf m)) t))
   begins m e = trace-begins t ∙ ap (λ (x : Next). beginsWith x (drop 1 t) (traceOf (drop (suc (lengthOf x)) t))) (sym en ∙ e)
 
 -- the replay has come to a place: what is ahead, received as things stand now, is what the whole trace leaves

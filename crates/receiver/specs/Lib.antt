@@ -1,3 +1,4 @@
 pub mod Trace
 pub mod Receiver
+pub mod Since
 pub mod Inner

@@ -1,13 +1,13 @@
 -- A recorded trace: the messages of the bus, one after the other, and how it ends.
-use Prim.Native.Nat.{ℕ, zero, suc, _+_, _-_, _≤_}
-use mathlib.Core.List.{List, [], _∷_}
+use Prim.Native.Nat.{ℕ, zero, suc, _+_, _-_, _^_, _<_}
+use mathlib.Core.List.{List, [], _∷_, _++_}
 use lib.ListN.{length, take, drop}
 use lib.Dec.{ltb, eqb}
 use Rattle.lists.specs.Lists.{pick}
 use Rattle.checks.specs.Numbers.{truncated, invalid}
 use Rattle.checks.specs.declared.Verdict.{Verdict}
 use Rattle.checks.specs.declared.Verdict.the-variants.{Fine, Refused}
-use Rattle.words64.specs.Words64.{numberFrom}
+use Rattle.words64.specs.Words64.{numberFrom, digits}
 use Rattle.receiver.specs.declared.trace.Next.{Next}
 use Rattle.receiver.specs.declared.trace.Next.the-variants as next-is
 
@@ -72,3 +72,26 @@ traceFrom (byte ∷ rest) zero = beginsWith (nextOf (byte ∷ rest)) rest (trace
 -- the whole trace, in one pass (rules 11.7 and 11.8)
 abbrev pub traceOf : List ℕ → Trace
 traceOf bytes = traceFrom bytes 0
+
+-- the bytes of a message, as the recorder writes them: a byte 1 or 2, numbers with the least significant byte first (rule 11.7)
+abbrev pub written : Message → List ℕ
+written (start size) = 1 ∷ digits 8 size
+written (block number bytes) = 2 ∷ (digits 8 number ++ (digits 2 (length bytes) ++ bytes))
+
+-- length and number have eight bytes, the size two
+abbrev pub Writable : Message → Type 0
+Writable (start size) = size < 2 ^ 64
+Writable (block number bytes) = (number < 2 ^ 64) × (length bytes < 65536)
+
+-- messages one after the other
+unfoldable pub writtenAll : List Message → List ℕ
+writtenAll [] = []
+writtenAll (m ∷ later) = written m ++ writtenAll later
+
+unfoldable pub EachWritable : List Message → Type 0
+EachWritable [] = Unit
+EachWritable (m ∷ later) = Writable m × EachWritable later
+
+-- a trace that begins with these messages
+abbrev pub goesOnAll : List Message → Trace → Trace
+goesOnAll messages later = record { messages = messages ++ later .messages; ending = later .ending }

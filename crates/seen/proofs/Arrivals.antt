@@ -32,9 +32,14 @@ module _ (b : ℕ) (map : List ℕ) where
   unfolding alsoCame blockCame
   also-came h = rw (getD-set-same map b 1 0 h)
 
-  pub also-other : (c : ℕ) → (c ≡ b → ⊥) → blockCame (alsoCame b map) c ≡ blockCame map c
-  unfolding alsoCame blockCame
-  also-other c d = rw (getD-set-other map b c 1 0 d)
+  module _ (c : ℕ) (other : c ≡ b → ⊥) where
+    pub also-byte : getD (alsoCame b map) c 0 ≡ getD map c 0
+    unfolding alsoCame
+    also-byte = getD-set-other map b c 1 0 other
+
+    pub also-other : blockCame (alsoCame b map) c ≡ blockCame map c
+    unfolding blockCame
+    also-other = rw also-byte
 
 pub none-came : (n b : ℕ) → blockCame (noneCame n) b ≡ false
 unfolding blockCame
