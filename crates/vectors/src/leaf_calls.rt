@@ -2,9 +2,8 @@
 use crate::lent::FILL;
 use crate::lent::ROOM;
 use crate::line::put;
-use crate::line::put_hex;
-use crate::line::say;
-use checks::Verdict;
+use crate::line::put_verdict;
+use crate::line::show;
 
 pub enum Leaf {
     Packets,
@@ -35,55 +34,6 @@ fn call_of(numbers: &[u8]) -> Call {
         output: records::num(numbers, 40),
         scratch: records::num(numbers, 48),
     }
-}
-
-fn put_bytes(bytes: &[u8]) {
-    let mut i: usize = 0;
-    while i < bytes.len() {
-        put_hex(records::wide(bytes[i]) as u64, 2);
-        i += 1;
-    }
-}
-
-// Adler-32: a checksum that many other programs can compute.
-fn adler(bytes: &[u8]) -> u64 {
-    let mut a: usize = 1;
-    let mut b: usize = 0;
-    let mut i: usize = 0;
-    while i < bytes.len() {
-        a = (a + records::wide(bytes[i])) % 65521;
-        b = (b + a) % 65521;
-        i += 1;
-    }
-    (b * 65536 + a) as u64
-}
-
-// A buffer after the call: all of it, or where that is long a checksum and its first bytes.
-fn show(buffer: &[u8]) {
-    if buffer.len() == 0 {
-        say(b" -");
-        return;
-    }
-    if 64 < buffer.len() {
-        say(b" #");
-        put_hex(adler(buffer), 8);
-        say(b" ");
-        put_bytes(&buffer[0..16]);
-        return;
-    }
-    say(b" ");
-    put_bytes(buffer);
-}
-
-fn number_of(v: Verdict) -> usize {
-    match v {
-        Verdict::Fine => 0,
-        Verdict::Refused(n) => records::wide(n),
-    }
-}
-
-fn put_verdict(v: Verdict) {
-    put(b" ", number_of(v));
 }
 
 fn run_packets(call: Call, input: &[u8], output: &mut [u8]) {

@@ -1,4 +1,5 @@
 // What is written of numbers, checksums and answers that several groups have.
+use checks::Verdict;
 use libc::STDOUT_FILENO;
 use picture::Format;
 
@@ -23,6 +24,55 @@ pub fn put_hex(n: u64, digits: usize) {
 pub fn put_checksum(before: &[u8], buffer: &[u8]) {
     say(before);
     put_hex(records::crc::crc32(buffer) as u64, 8);
+}
+
+fn put_bytes(bytes: &[u8]) {
+    let mut i: usize = 0;
+    while i < bytes.len() {
+        put_hex(records::wide(bytes[i]) as u64, 2);
+        i += 1;
+    }
+}
+
+// Adler-32: a checksum that many other programs can compute.
+fn adler(bytes: &[u8]) -> u64 {
+    let mut a: usize = 1;
+    let mut b: usize = 0;
+    let mut i: usize = 0;
+    while i < bytes.len() {
+        a = (a + records::wide(bytes[i])) % 65521;
+        b = (b + a) % 65521;
+        i += 1;
+    }
+    (b * 65536 + a) as u64
+}
+
+// A buffer after the call: all of it, or where that is long a checksum and its first bytes.
+pub fn show(buffer: &[u8]) {
+    if buffer.len() == 0 {
+        say(b" -");
+        return;
+    }
+    if 64 < buffer.len() {
+        say(b" #");
+        put_hex(adler(buffer), 8);
+        say(b" ");
+        put_bytes(&buffer[0..16]);
+        return;
+    }
+    say(b" ");
+    put_bytes(buffer);
+}
+
+fn number_of(v: Verdict) -> usize {
+    match v {
+        Verdict::Fine => 0,
+        Verdict::Refused(n) => records::wide(n),
+    }
+}
+
+pub fn put_verdict(v: Verdict) {
+    put(b" ", number_of(v));
 }
 
 pub fn put_refusal(n: u8, left: usize) {

@@ -1,15 +1,15 @@
--- `vectors::leaf_calls::adler` is safe and ends: both sums stay below 65521. The measure is what is left of the bytes. Assumes nothing.
-use Prim.Native.Nat.{_≤_, _<_, _-_}
+-- `vectors::line::put_bytes` is safe and ends: the measure is what is left of the bytes. Assumes nothing.
+use Prim.Native.Nat.{_≤_, _-_}
 use lib.ListN.{length}
 use borrow.Author.Needs.{needs}
-use Rattle.vectors.proofs.leaf_calls.adler.Statement.{statement}
-use Rattle.vectors.proofs.leaf_calls.adler.Tie as tie
+use Rattle.vectors.proofs.line.put_bytes.Statement.{statement}
+use Rattle.vectors.proofs.line.put_bytes.Tie as tie
 
 abbrev Inv-loop : tie.InvT-loop
-Inv-loop bytes a₀ b₀ i₀ a b i = (a < 65521) × (b < 65521) × (i ≤ length bytes)
+Inv-loop bytes i₀ i = i ≤ length bytes
 
 abbrev μ-loop : tie.MeasureT-loop
-μ-loop bytes a₀ b₀ i₀ a b i = length bytes - i
+μ-loop bytes i₀ i = length bytes - i
 
 loop-holds : tie.Need-loop-holds Inv-loop μ-loop
 loop-holds c = search needs
@@ -20,11 +20,8 @@ shared-slice-read-wide c = search needs
 wide-requires : tie.Need-wide-requires Inv-loop μ-loop
 wide-requires c κs = search needs
 
-add-a : tie.Need-add-a Inv-loop μ-loop
-add-a c = search needs
-
-add-b : tie.Need-add-b Inv-loop μ-loop
-add-b c = search needs
+put-hex-requires : tie.Need-put-hex-requires Inv-loop μ-loop
+put-hex-requires c κs = search needs
 
 add-i : tie.Need-add-i Inv-loop μ-loop
 add-i c = search needs
@@ -35,17 +32,11 @@ loop-less c = search needs
 loop-again : tie.Need-loop-again Inv-loop μ-loop
 loop-again c = search needs
 
-mul-result : tie.Need-mul-result Inv-loop μ-loop
-mul-result c = search needs
-
-add-result : tie.Need-add-result Inv-loop μ-loop
-add-result c = search needs
-
 returns : tie.Need-returns Inv-loop μ-loop
 returns c = search needs
 
-pub adler-spec : {M : Type 1} → statement M
-adler-spec =
+pub put-bytes-spec : {M : Type 1} → statement M
+put-bytes-spec =
     tie.close
     (tie.spec
     Inv-loop
@@ -53,11 +44,8 @@ adler-spec =
     loop-holds
     shared-slice-read-wide
     wide-requires
-    add-a
-    add-b
+    put-hex-requires
     add-i
     loop-less
     loop-again
-    mul-result
-    add-result
     returns)
