@@ -18,10 +18,11 @@ import front
 import leaf
 import patchy
 import pictures
+import receiver
 import strict
 from common import FILE, hold_or_write, unnoticed
 
-GROUPS = leaf, front, strict, patchy    # in the order in which the program runs them
+GROUPS = leaf, front, strict, patchy, receiver  # in the order in which the program runs them
 
 def made(group):
     """The files of a group, and the lines on them."""

@@ -3,6 +3,7 @@
 use files::Content;
 use front_calls::Front;
 use leaf_calls::Leaf;
+use receiver_calls::Message;
 use strict_calls::Strict;
 use walk::Kind;
 
@@ -35,6 +36,9 @@ mod paths;
 
 // Pictures from another writer.
 mod pictures;
+
+// The receiver of a bus.
+mod receiver_calls;
 
 // Strict reading.
 mod strict_calls;
@@ -100,6 +104,20 @@ fn run_patchy() {
     );
 }
 
+fn run_receiver() {
+    run_record_files(Kind::Receiver(Message::Start), b"receiver/", b"starts");
+    run_record_files(
+        Kind::Receiver(Message::Block),
+        b"receiver/",
+        b"blocks rooms",
+    );
+    run_record_files(
+        Kind::Receiver(Message::Trace),
+        b"receiver/",
+        b"cuts foreign sizes orders lendings random_a random_b random_c",
+    );
+}
+
 fn run_picture_files(units: usize, folder: &[u8], names: &[u8]) {
     files::run_files(Content::Picture(units), folder, names, b".tif");
 }
@@ -138,5 +156,6 @@ fn main() {
     run_front();
     run_strict();
     run_patchy();
+    run_receiver();
     run_pictures();
 }

@@ -1,4 +1,4 @@
-// Paths, made of parts.
+// Parts one after the other: paths, and bytes at the start of what a call is lent.
 ghost use Prim.Native.Nat.{_≤_};
 ghost use lib.ListN.{length};
 ghost use Rattle.io.specs.Counts.{Counts};

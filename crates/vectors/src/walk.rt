@@ -5,6 +5,8 @@ use crate::leaf_calls;
 use crate::leaf_calls::Leaf;
 use crate::line::say;
 use crate::patchy_calls;
+use crate::receiver_calls;
+use crate::receiver_calls::Message;
 use crate::strict_calls;
 use crate::strict_calls::Strict;
 ghost use Prim.Native.Nat.{_<_, _≤_};
@@ -22,6 +24,7 @@ pub enum Kind {
     Front(Front),
     Strict(Strict),
     Patchy,
+    Receiver(Message),
 }
 
 fn run(kind: Kind, numbers: &[u8], file: &[u8], more: &[u8]) {
@@ -30,6 +33,7 @@ fn run(kind: Kind, numbers: &[u8], file: &[u8], more: &[u8]) {
         Kind::Front(call) => front_calls::run(call, numbers, file, more),
         Kind::Strict(call) => strict_calls::run(call, numbers, file, more),
         Kind::Patchy => patchy_calls::run(numbers, file, more),
+        Kind::Receiver(message) => receiver_calls::run(message, numbers, file, more),
     }
 }
 
