@@ -22,6 +22,9 @@ uint64_t chelmesut_read_patchy(const uint8_t *, size_t, const uint8_t *, size_t,
                                uint64_t, uint64_t, uint64_t, uint64_t *, uint8_t *, size_t, uint8_t *, size_t, uint8_t *,
                                size_t, uint64_t[5]);
 uint64_t chelmesut_work_limit(uint64_t, uint64_t, uint64_t, uint64_t, uint64_t, uint64_t, uint64_t, uint64_t *);
+uint64_t chelmesut_receive_start(uint8_t *, size_t, uint8_t *, size_t, uint64_t[2], uint64_t);
+uint64_t chelmesut_receive_block(uint8_t *, size_t, uint8_t *, size_t, uint64_t[2], uint64_t, const uint8_t *, size_t);
+uint64_t chelmesut_replay(const uint8_t *, size_t, uint8_t *, size_t, uint8_t *, size_t, uint64_t[2]);
 uint64_t chelmesut_predictor64(const uint8_t *, size_t, uint64_t, uint64_t, uint64_t, uint64_t, bool, bool, uint8_t *,
                                size_t);
 uint64_t chelmesut_predictor3(const uint8_t *, size_t, uint64_t, uint64_t, uint64_t, bool, uint8_t *, size_t, uint8_t *,
@@ -40,7 +43,7 @@ enum {
     FRONT = 4 * DIRECTORY + PROFILE
 };
 enum { OUTPUT = 12, SCRATCH = 20 }; /* of a picture of one strip */
-enum { PAGE = 3, MOST_FILE = CHELMESUT_BLOCK + 8 };
+enum { PAGE = 3, TWO_STRIPS = CHELMESUT_BLOCK + 8, ROOM = 2048 };
 
 static const uint8_t packets[8] = {0x80, 0x07, 0x80, 0x01, 0x80, 0x02, 0x80, 0x03};
 static const uint8_t pixels[OUTPUT] = {0x01, 0x07, 0xc7, 0x00, 0x17, 0x01, 0x01, 0x07, 0xc7, 0x00, 0x17, 0x01};
@@ -76,14 +79,14 @@ static void all_are(const char *what, const uint8_t *are, size_t from, size_t to
         same_bytes(what, are + i, &expected, 1);
 }
 
-/* ---- the file */
+/* ---- the file, of a picture or of a trace */
 
 struct file {
-    uint8_t bytes[MOST_FILE];
+    uint8_t bytes[ROOM];
     size_t length;
 };
 
-static void put(struct file *file, uint32_t value, size_t size)
+static void put(struct file *file, uint64_t value, size_t size)
 {
     for (size_t i = 0; i < size; i++)
         file->bytes[file->length++] = (uint8_t)(value >> (8 * i));
@@ -130,7 +133,7 @@ static void make_file(struct file *file, uint32_t strips)
     file->length = ONE_STRIP;
     if (strips == 2) {
         memcpy(file->bytes + CHELMESUT_BLOCK, packets, sizeof packets);
-        file->length = MOST_FILE;
+        file->length = TWO_STRIPS;
     }
 }
 
@@ -140,17 +143,19 @@ static void names(void)
 {
     char version[32];
     static const int refusals[] = {
-        CHELMESUT_OK,          CHELMESUT_TRUNCATED,      CHELMESUT_INVALID,          CHELMESUT_UNSUPPORTED,
-        CHELMESUT_LIMIT,       CHELMESUT_PAGE_NOT_FOUND, CHELMESUT_OUTPUT_TOO_SMALL, CHELMESUT_BUDGET,
-        CHELMESUT_NOT_ARRIVED, CHELMESUT_MAP_SIZE};
+        CHELMESUT_OK,          CHELMESUT_TRUNCATED,      CHELMESUT_INVALID,            CHELMESUT_UNSUPPORTED,
+        CHELMESUT_LIMIT,       CHELMESUT_PAGE_NOT_FOUND, CHELMESUT_OUTPUT_TOO_SMALL,   CHELMESUT_BUDGET,
+        CHELMESUT_NOT_ARRIVED, CHELMESUT_MAP_SIZE,       CHELMESUT_RECEIVER_TOO_SMALL, CHELMESUT_NO_SUCH_BLOCK,
+        CHELMESUT_BLOCK_SIZE};
     static const int qualities[] = {CHELMESUT_QUALITY_UNREAD, CHELMESUT_QUALITY_GOOD, CHELMESUT_QUALITY_MISSING,
                                     CHELMESUT_QUALITY_OUTSIDE, CHELMESUT_QUALITY_REJECTED};
-    for (int i = 0; i < 10; i++)
+    for (int i = 0; i < 13; i++)
         same("a refusal", (uint64_t)refusals[i], (uint64_t)i);
     for (int i = 0; i < 5; i++)
         same("a quality", (uint64_t)qualities[i], (uint64_t)i);
     same("the words of a handle", CHELMESUT_HANDLE_WORDS, 17);
     same("the words of an answer", CHELMESUT_ANSWER_WORDS, 5);
+    same("the words of a receiver", CHELMESUT_RECEIVER_WORDS, 2);
     same("a block", CHELMESUT_BLOCK, 512);
     snprintf(version, sizeof version, "%d.%d.%d", CHELMESUT_VERSION_MAJOR, CHELMESUT_VERSION_MINOR, CHELMESUT_VERSION_PATCH);
     same("whether the version is that of its three numbers", strcmp(version, CHELMESUT_VERSION) == 0, 1);
@@ -275,7 +280,7 @@ static void decoding(void)
 /* ---- patchy reading, of two strips in two blocks */
 
 /* The least limits, but that max_dimension is one above the sides, so that no two are equal. */
-static const uint64_t patchy_least[LIMITS] = {MOST_FILE, 2 * OUTPUT, 3, 4, ENTRIES, 2};
+static const uint64_t patchy_least[LIMITS] = {TWO_STRIPS, 2 * OUTPUT, 3, 4, ENTRIES, 2};
 
 struct trial {
     const char *what;
@@ -402,6 +407,219 @@ static void work_limit(void)
     same("the word behind the work limit", limit[1], 0xfeed);
 }
 
+/* ---- the receiver, of a picture of two blocks */
+
+enum { LAST = 9, RECEIVED = CHELMESUT_BLOCK + LAST, BLOCKS = 2 };
+
+/* What is lent to a receiver, and as much behind it as is never to change. */
+struct receiver {
+    uint8_t file[RECEIVED + GUARD], map[BLOCKS + GUARD];
+    uint64_t words[CHELMESUT_RECEIVER_WORDS + GUARD];
+};
+
+static struct receiver receiver_with(uint64_t started, uint64_t length)
+{
+    struct receiver receiver;
+    memset(&receiver, WAS, sizeof receiver);
+    receiver.words[CHELMESUT_R_STARTED] = started;
+    receiver.words[CHELMESUT_R_LENGTH] = length;
+    return receiver;
+}
+
+static void same_receiver(const struct receiver *is, const struct receiver *expected)
+{
+    same_bytes("a received file", is->file, expected->file, sizeof is->file);
+    same_bytes("a received map", is->map, expected->map, sizeof is->map);
+    for (int i = 0; i < CHELMESUT_RECEIVER_WORDS + GUARD; i++)
+        same("a word of a receiver", is->words[i], expected->words[i]);
+}
+
+/* What an accepted start and an accepted block leave. */
+static void started(struct receiver *receiver, size_t map_length, uint64_t length)
+{
+    memset(receiver->map, 0, map_length);
+    receiver->words[CHELMESUT_R_STARTED] = 1;
+    receiver->words[CHELMESUT_R_LENGTH] = length;
+}
+
+static void placed(struct receiver *receiver, uint64_t number, const uint8_t *bytes, size_t size)
+{
+    memcpy(receiver->file + CHELMESUT_BLOCK * number, bytes, size);
+    receiver->map[number] = 1;
+}
+
+static void start(const char *what, size_t file_length, size_t map_length, uint64_t length, uint64_t number)
+{
+    for (uint64_t word = 0; word < 3; word++) {
+        struct receiver is = receiver_with(word, RECEIVED - 1), expected = is;
+        same(what, chelmesut_receive_start(is.file, file_length, is.map, map_length, is.words, length), number);
+        if (number == CHELMESUT_OK)
+            started(&expected, map_length, length);
+        same_receiver(&is, &expected);
+    }
+}
+
+static void starts(void)
+{
+    start("a start", RECEIVED, BLOCKS, RECEIVED, CHELMESUT_OK);
+    start("a start in longer buffers", RECEIVED + 1, BLOCKS + 2, RECEIVED, CHELMESUT_OK);
+    start("a start of a whole block", CHELMESUT_BLOCK, 1, CHELMESUT_BLOCK, CHELMESUT_OK);
+    start("a start of nothing", 0, 0, 0, CHELMESUT_OK);
+    start("a start with a short file", RECEIVED - 1, BLOCKS, RECEIVED, CHELMESUT_RECEIVER_TOO_SMALL);
+    start("a start with a short map", RECEIVED, BLOCKS - 1, RECEIVED, CHELMESUT_RECEIVER_TOO_SMALL);
+    start("a start of a long picture", RECEIVED, BLOCKS, wide + RECEIVED, CHELMESUT_RECEIVER_TOO_SMALL);
+    start("a start of the longest picture", RECEIVED, BLOCKS, UINT64_MAX, CHELMESUT_RECEIVER_TOO_SMALL);
+}
+
+static void make_bytes(uint8_t *bytes, size_t length)
+{
+    for (size_t i = 0; i < length; i++)
+        bytes[i] = (uint8_t)(7 * i + 1);
+}
+
+static void block(const char *what, uint64_t word, uint64_t length, size_t file_length, size_t map_length, uint64_t number,
+                  size_t size, uint64_t answer)
+{
+    struct receiver is = receiver_with(word, length), expected = is;
+    uint8_t bytes[CHELMESUT_BLOCK + 1];
+    make_bytes(bytes, sizeof bytes);
+    same(what, chelmesut_receive_block(is.file, file_length, is.map, map_length, is.words, number, bytes, size), answer);
+    if (answer == CHELMESUT_OK)
+        placed(&expected, number, bytes, size);
+    same_receiver(&is, &expected);
+}
+
+static void blocks(void)
+{
+    const uint64_t none = CHELMESUT_NO_SUCH_BLOCK, small = CHELMESUT_RECEIVER_TOO_SMALL, size = CHELMESUT_BLOCK_SIZE;
+    block("a block", 1, RECEIVED, RECEIVED, BLOCKS, 0, CHELMESUT_BLOCK, CHELMESUT_OK);
+    block("the last block", 1, RECEIVED, RECEIVED, BLOCKS, 1, LAST, CHELMESUT_OK);
+    block("the last block in longer buffers", 1, RECEIVED, RECEIVED + 1, BLOCKS + 2, 1, LAST, CHELMESUT_OK);
+    block("a last block that is whole", 1, CHELMESUT_BLOCK, RECEIVED, BLOCKS, 0, CHELMESUT_BLOCK, CHELMESUT_OK);
+    block("a block before any start", 0, RECEIVED, RECEIVED, BLOCKS, 0, CHELMESUT_BLOCK, none);
+    block("a block with a word that is not 1", wide + 1, RECEIVED, RECEIVED, BLOCKS, 0, CHELMESUT_BLOCK, none);
+    block("a block before any start with no buffers", 0, RECEIVED, 0, 0, 0, CHELMESUT_BLOCK, none);
+    block("a block with a short file", 1, RECEIVED, RECEIVED - 1, BLOCKS, 0, CHELMESUT_BLOCK, small);
+    block("a block with a short map", 1, RECEIVED, RECEIVED, BLOCKS - 1, 0, CHELMESUT_BLOCK, small);
+    block("a block of a long picture", 1, wide + RECEIVED, RECEIVED, BLOCKS, 0, CHELMESUT_BLOCK, small);
+    block("a block behind the last, with a short file", 1, RECEIVED, RECEIVED - 1, BLOCKS, 2, 0, small);
+    block("a block behind the last", 1, RECEIVED, RECEIVED, BLOCKS, 2, LAST, none);
+    block("a block behind a last one that is whole", 1, CHELMESUT_BLOCK, RECEIVED, BLOCKS, 1, 0, none);
+    block("a block of nothing", 1, 0, RECEIVED, BLOCKS, 0, 0, none);
+    block("a block with a wide number", 1, RECEIVED, RECEIVED, BLOCKS, wide + 1, LAST, none);
+    block("a block with the greatest number", 1, RECEIVED, RECEIVED, BLOCKS, UINT64_MAX, LAST, none);
+    block("a short block", 1, RECEIVED, RECEIVED, BLOCKS, 0, CHELMESUT_BLOCK - 1, size);
+    block("a long block", 1, RECEIVED, RECEIVED, BLOCKS, 0, CHELMESUT_BLOCK + 1, size);
+    block("a short last block", 1, RECEIVED, RECEIVED, BLOCKS, 1, LAST - 1, size);
+    block("a long last block", 1, RECEIVED, RECEIVED, BLOCKS, 1, LAST + 1, size);
+    block("a whole last block", 1, RECEIVED, RECEIVED, BLOCKS, 1, CHELMESUT_BLOCK, size);
+}
+
+static void put_start(struct file *trace, uint64_t length)
+{
+    put(trace, 1, 1);
+    put(trace, length, 8);
+}
+
+static void put_block(struct file *trace, uint64_t number, const uint8_t *bytes, size_t size)
+{
+    put(trace, 2, 1);
+    put(trace, number, 8);
+    put(trace, size, 2);
+    memcpy(trace->bytes + trace->length, bytes, size);
+    trace->length += size;
+}
+
+/* A trace with each kind of message: where each ends, and what a receiver is after it. */
+enum { MESSAGES = 9, LENT_FILE = RECEIVED + 2, LENT_MAP = BLOCKS + 1 };
+
+struct recording {
+    struct file trace;
+    size_t ends[MESSAGES + 1];
+    struct receiver after[MESSAGES + 1];
+    int messages;
+};
+
+/* A message was put, and leaves this. */
+static void leaves(struct recording *recording, const struct receiver *receiver)
+{
+    recording->messages++;
+    recording->ends[recording->messages] = recording->trace.length;
+    recording->after[recording->messages] = *receiver;
+}
+
+static struct recording record(struct receiver receiver)
+{
+    struct recording recording;
+    struct file *trace = &recording.trace;
+    uint8_t bytes[CHELMESUT_BLOCK];
+    memset(&recording, 0, sizeof recording);
+    make_bytes(bytes, sizeof bytes);
+    recording.after[0] = receiver;
+    put_block(trace, 0, bytes, 1); /* refused, be it before any start or for its size */
+    leaves(&recording, &receiver);
+    put_start(trace, RECEIVED);
+    started(&receiver, LENT_MAP, RECEIVED);
+    leaves(&recording, &receiver);
+    put_block(trace, 1, bytes + 1, LAST);
+    placed(&receiver, 1, bytes + 1, LAST);
+    leaves(&recording, &receiver);
+    put_block(trace, 1, bytes, LAST);
+    placed(&receiver, 1, bytes, LAST);
+    leaves(&recording, &receiver);
+    put_block(trace, wide, bytes, CHELMESUT_BLOCK);
+    leaves(&recording, &receiver);
+    put_start(trace, wide + 1);
+    leaves(&recording, &receiver);
+    put_block(trace, 0, bytes, CHELMESUT_BLOCK);
+    placed(&receiver, 0, bytes, CHELMESUT_BLOCK);
+    leaves(&recording, &receiver);
+    put_block(trace, 1, bytes, 0);
+    leaves(&recording, &receiver);
+    put_start(trace, 1);
+    started(&receiver, LENT_MAP, 1);
+    leaves(&recording, &receiver);
+    return recording;
+}
+
+static void replay(const char *what, const struct file *trace, struct receiver is, uint64_t number,
+                   const struct receiver *expected)
+{
+    same(what, chelmesut_replay(trace->bytes, trace->length, is.file, LENT_FILE, is.map, LENT_MAP, is.words), number);
+    same_receiver(&is, expected);
+}
+
+/* The trace up to each of its bytes; and behind each whole message a byte that begins none. */
+static void replay_to_each_byte(const struct receiver *before)
+{
+    static const uint8_t foreign[] = {0, 3, 255};
+    const struct recording recording = record(*before);
+    struct file trace = recording.trace;
+    int whole = 0;
+    for (trace.length = 0; trace.length <= recording.trace.length; trace.length++) {
+        if (whole < MESSAGES && trace.length == recording.ends[whole + 1])
+            whole++;
+        if (trace.length > recording.ends[whole]) {
+            replay("a replay of a cut trace", &trace, *before, CHELMESUT_TRUNCATED, &recording.after[whole]);
+            continue;
+        }
+        replay("a replay", &trace, *before, CHELMESUT_OK, &recording.after[whole]);
+        for (size_t i = 0; i < sizeof foreign; i++) {
+            struct file other = trace;
+            put(&other, foreign[i], 1);
+            replay("a replay of another message", &other, *before, CHELMESUT_INVALID, &recording.after[whole]);
+        }
+    }
+}
+
+static void replays(void)
+{
+    for (uint64_t word = 0; word < 2; word++) {
+        struct receiver before = receiver_with(word, RECEIVED);
+        replay_to_each_byte(&before);
+    }
+}
+
 /* ---- predictors */
 
 enum { SAMPLES = 6 };
@@ -493,6 +711,9 @@ int main(void)
     read_strips();
     refuse_strips();
     work_limit();
+    starts();
+    blocks();
+    replays();
     predictor64();
     predictor3();
     printf("face: every call answers and leaves what it should; %lu numbers and bytes compared\n", compared);

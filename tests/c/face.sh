@@ -45,7 +45,7 @@ awk '/^pub extern "C" fn / { sub(/.*fn /, ""); sub(/\(.*/, ""); line = $0; insid
      inside { name = $1; sub(/:$/, "", name); line = line " " name; if (/: &(mut )?\[u8\],$/) line = line " " name "_len" }' \
     crates/chelmesut/src/lib.rt >"$work/proved.names"
 diff "$work/header.names" "$work/proved.names" || die "the header's arguments, above, are not those of crates/chelmesut, below"
-[ "$(wc -l <"$work/header.names")" -eq 6 ] || die "not six functions"
+[ "$(wc -l <"$work/header.names")" -eq 9 ] || die "not nine functions"
 
 version=$(tools/version)
 in_rust=$(sed -n 's/^version = "\(.*\)"$/\1/p' bindings/rust/Cargo.toml | head -n 1)
