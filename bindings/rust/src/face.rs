@@ -1,4 +1,4 @@
-//! The C face: its six functions declared as include/chelmesut.h has them, and a safe function over
+//! The C face: its nine functions declared as include/chelmesut.h has them, and a safe function over
 //! each. All unsafe code is here.
 //!
 //! The C face takes any numbers and any bytes. What it asks of its caller:
@@ -17,7 +17,7 @@
 //! value of the bytes and words that it writes is a valid one.
 //!
 //! One thing no type can see to: the archive must be that of this version, since another may write
-//! more words into a handle or an answer than are lent to it here.
+//! more words into a handle, an answer or a receiver than are lent to it here.
 
 use crate::Limits;
 
@@ -26,6 +26,9 @@ pub const HANDLE_WORDS: usize = 17;
 
 /// The words of the patchy reading's answer (rule 8.9).
 pub const ANSWER_WORDS: usize = 5;
+
+/// The words of a receiver (rule 11.9).
+pub const RECEIVER_WORDS: usize = 2;
 
 extern "C" {
     fn chelmesut_inspect(
@@ -91,6 +94,36 @@ extern "C" {
         max_tags: u64,
         max_segments: u64,
         limit: &mut u64,
+    ) -> u64;
+
+    fn chelmesut_receive_start(
+        file: *mut u8,
+        file_len: usize,
+        map: *mut u8,
+        map_len: usize,
+        receiver: &mut [u64; RECEIVER_WORDS],
+        length: u64,
+    ) -> u64;
+
+    fn chelmesut_receive_block(
+        file: *mut u8,
+        file_len: usize,
+        map: *mut u8,
+        map_len: usize,
+        receiver: &mut [u64; RECEIVER_WORDS],
+        number: u64,
+        bytes: *const u8,
+        bytes_len: usize,
+    ) -> u64;
+
+    fn chelmesut_replay(
+        trace: *const u8,
+        trace_len: usize,
+        file: *mut u8,
+        file_len: usize,
+        map: *mut u8,
+        map_len: usize,
+        receiver: &mut [u64; RECEIVER_WORDS],
     ) -> u64;
 
     fn chelmesut_predictor64(
@@ -225,6 +258,67 @@ pub fn work_limit(page: u64, limits: &Limits, limit: &mut u64) -> u64 {
             limits.max_tags,
             limits.max_segments,
             limit,
+        )
+    }
+}
+
+pub fn receive_start(
+    file: &mut [u8],
+    map: &mut [u8],
+    receiver: &mut [u64; RECEIVER_WORDS],
+    length: u64,
+) -> u64 {
+    // SAFETY: numbers, slices and a reference of Rust, see above.
+    unsafe {
+        chelmesut_receive_start(
+            file.as_mut_ptr(),
+            file.len(),
+            map.as_mut_ptr(),
+            map.len(),
+            receiver,
+            length,
+        )
+    }
+}
+
+pub fn receive_block(
+    file: &mut [u8],
+    map: &mut [u8],
+    receiver: &mut [u64; RECEIVER_WORDS],
+    number: u64,
+    bytes: &[u8],
+) -> u64 {
+    // SAFETY: numbers, slices and a reference of Rust, see above.
+    unsafe {
+        chelmesut_receive_block(
+            file.as_mut_ptr(),
+            file.len(),
+            map.as_mut_ptr(),
+            map.len(),
+            receiver,
+            number,
+            bytes.as_ptr(),
+            bytes.len(),
+        )
+    }
+}
+
+pub fn replay(
+    trace: &[u8],
+    file: &mut [u8],
+    map: &mut [u8],
+    receiver: &mut [u64; RECEIVER_WORDS],
+) -> u64 {
+    // SAFETY: slices and a reference of Rust, see above.
+    unsafe {
+        chelmesut_replay(
+            trace.as_ptr(),
+            trace.len(),
+            file.as_mut_ptr(),
+            file.len(),
+            map.as_mut_ptr(),
+            map.len(),
+            receiver,
         )
     }
 }

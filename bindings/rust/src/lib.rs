@@ -16,10 +16,12 @@ struct Readme;
 mod face;
 mod handle;
 mod quality;
+mod receiver;
 mod refusal;
 
 pub use handle::{AlphaMode, Handle};
 pub use quality::{NotAQuality, Quality};
+pub use receiver::{Received, Receiver};
 pub use refusal::Refusal;
 
 /// The bytes of a block, the unit in which a file arrives (rule 8.2): block `i` is the bytes from
@@ -124,8 +126,7 @@ pub enum ByteOrder {
 ///
 /// A success has charged the directories up to the page, 128 units and the fee of every segment
 /// (rule 5.4); [`work_limit`] bounds that. A refusal has charged what came before it. It refuses
-/// with every number but [`OutputTooSmall`](Refusal::OutputTooSmall),
-/// [`NotArrived`](Refusal::NotArrived) and [`MapSize`](Refusal::MapSize).
+/// with the numbers 1 to 5, and with 7, [`Budget`](Refusal::Budget).
 pub fn inspect(
     file: &[u8],
     page: u64,

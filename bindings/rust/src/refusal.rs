@@ -7,14 +7,17 @@ use std::fmt;
 ///
 /// The checks of a call have a fixed order, and the first that fails gives the number. After a
 /// refusal the lent buffers are as they were, but that a refused
-/// [`read_patchy`](crate::read_patchy) sets the whole quality buffer to 0; what was charged before
-/// it stays taken. Later versions may name more numbers, so a `match` needs an arm for the rest.
+/// [`read_patchy`](crate::read_patchy) sets the whole quality buffer to 0, and that a
+/// [`replay`](crate::Receiver::replay) which stops keeps what its messages did before; what was
+/// charged before it stays taken. Later versions may name more numbers, so a `match` needs an arm for
+/// the rest.
 #[derive(Clone, Copy, Debug, PartialEq, Eq, Hash)]
 #[non_exhaustive]
 pub enum Refusal {
-    /// 1: bytes that lie outside the file, or packets that end too early.
+    /// 1: bytes that lie outside the file, or packets or a trace that end too early.
     Truncated,
-    /// 2: malformed entries, bad packets, or a handle that no inspection gives.
+    /// 2: malformed entries, bad packets, a handle that no inspection gives, or bytes of a trace that
+    /// are no message.
     Invalid,
     /// 3: a picture outside the profile, that is, of a kind that is not read.
     Unsupported,
@@ -30,6 +33,12 @@ pub enum Refusal {
     NotArrived,
     /// 9: the delivery map has the wrong length.
     MapSize,
+    /// 10: the file buffer or the map of a receiver is too short for the file that is to come.
+    ReceiverTooSmall,
+    /// 11: a block outside the file that comes, or before any start.
+    NoSuchBlock,
+    /// 12: a block with more or fewer bytes than it has in the file that comes.
+    BlockSize,
     /// A number that this version of the crate has no name for. The archive is then another
     /// version's, and nothing that the call did can be relied on: neither what it left in buffers
     /// and budget, nor what it means.
@@ -51,6 +60,9 @@ impl Refusal {
             Refusal::Budget => 7,
             Refusal::NotArrived => 8,
             Refusal::MapSize => 9,
+            Refusal::ReceiverTooSmall => 10,
+            Refusal::NoSuchBlock => 11,
+            Refusal::BlockSize => 12,
             Refusal::Unknown(number) => number,
         }
     }
@@ -69,6 +81,9 @@ impl Refusal {
             7 => Refusal::Budget,
             8 => Refusal::NotArrived,
             9 => Refusal::MapSize,
+            10 => Refusal::ReceiverTooSmall,
+            11 => Refusal::NoSuchBlock,
+            12 => Refusal::BlockSize,
             other => Refusal::Unknown(other),
         })
     }
@@ -80,9 +95,11 @@ impl Refusal {
 
     const fn meaning(self) -> &'static str {
         match self {
-            Refusal::Truncated => "bytes outside the file, or packets that end too early",
+            Refusal::Truncated => {
+                "bytes outside the file, or packets or a trace that end too early"
+            }
             Refusal::Invalid => {
-                "malformed entries, bad packets, or a handle that no inspection gives"
+                "malformed entries, bad packets, a handle that no inspection gives, or no message"
             }
             Refusal::Unsupported => "a picture of another kind",
             Refusal::Limit => "more than a limit allows, or a sum or product above 2^64-1",
@@ -93,6 +110,11 @@ impl Refusal {
                 "a byte that is needed before the segments is in a block that did not come"
             }
             Refusal::MapSize => "the delivery map has the wrong length",
+            Refusal::ReceiverTooSmall => {
+                "file buffer or map is too short for the file that is to come"
+            }
+            Refusal::NoSuchBlock => "a block outside the file that comes, or before any start",
+            Refusal::BlockSize => "a block with more or fewer bytes than it has in the file",
             Refusal::Unknown(_) => "the archive is not the one that this crate was written for",
         }
     }
@@ -117,9 +139,9 @@ mod tests {
     use super::*;
 
     #[test]
-    fn one_to_nine_have_names_and_no_two_the_same() {
+    fn one_to_twelve_have_names_and_no_two_the_same() {
         let mut names = Vec::new();
-        for number in 1..=9 {
+        for number in 1..=12 {
             let refusal = Refusal::from_number(number).unwrap();
             assert_eq!(refusal.number(), number);
             assert_eq!(Refusal::told(number), Err(refusal));
@@ -137,7 +159,7 @@ mod tests {
 
     #[test]
     fn a_number_without_a_name_is_carried() {
-        for number in [10, 11, 12, 1 << 32, u64::MAX] {
+        for number in [13, 14, 100, 1 << 32, u64::MAX] {
             let unknown = Refusal::Unknown(number);
             assert_eq!(Refusal::from_number(number), Some(unknown));
             assert_eq!(Refusal::told(number), Err(unknown));
@@ -152,8 +174,8 @@ mod tests {
             "refusal 9, MapSize: the delivery map has the wrong length"
         );
         assert_eq!(
-            Refusal::Unknown(10).to_string(),
-            "refusal 10, Unknown(10): the archive is not the one that this crate was written for"
+            Refusal::Unknown(13).to_string(),
+            "refusal 13, Unknown(13): the archive is not the one that this crate was written for"
         );
     }
 }

@@ -3,7 +3,7 @@
 
 use crate::files::{crc32, STALE};
 use chelmesut::{
-    decode, inspect, read_patchy, work_limit, Budget, Limits, Quality, Refusal, BLOCK_LEN,
+    decode, inspect, read_patchy, work_limit, Budget, Limits, Quality, Receiver, Refusal, BLOCK_LEN,
 };
 
 const LIBTIFF: u32 = 0x81AC_5794;
@@ -139,4 +139,42 @@ fn each_block_lost_in_turn_costs_the_strips_that_have_bytes_in_it() {
             }
         }
     }
+}
+
+#[test]
+fn a_picture_received_without_one_block_lacks_strip_31_and_nothing_else() {
+    const LOST: usize = 44;
+    let file = camera();
+    let (pixels, charged) = strict(&file);
+    // Buffers for any file of the camera, with another file in them.
+    let mut buffer = vec![STALE; 2 * 1024 * 1024];
+    let mut map = vec![1; 4096];
+    let mut receiver = Receiver::new(&mut buffer, &mut map);
+    receiver.start(file.len() as u64).unwrap();
+    for (number, bytes) in file.chunks(BLOCK_LEN).enumerate().rev() {
+        if number != LOST {
+            receiver.block(number as u64, bytes).unwrap();
+        }
+    }
+    let received = receiver.received().unwrap();
+    let mut budget = Budget { remaining: charged };
+    let mut output = vec![STALE; PICTURE];
+    let mut quality = [STALE; STRIPS];
+    read_patchy(
+        received.file,
+        received.map,
+        0,
+        &Limits::camera(),
+        &mut budget,
+        &mut output,
+        &mut [STALE; SCRATCH],
+        &mut quality,
+    )
+    .unwrap();
+    let mut qualities = [Quality::Good as u8; STRIPS];
+    qualities[31] = Quality::Missing as u8;
+    assert_eq!(quality, qualities);
+    let mut expected = pixels;
+    expected[31 * STRIP..32 * STRIP].fill(0);
+    assert!(output == expected);
 }

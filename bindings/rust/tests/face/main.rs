@@ -6,4 +6,5 @@ mod files;
 mod limits;
 mod patchy;
 mod predictors;
+mod receiver;
 mod strict;
