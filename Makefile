@@ -23,7 +23,7 @@ help:
 	@echo 'make rust           build, test and run the Rust binding (needs cargo)'
 	@echo 'make compare        compare with libtiff on COUNT=5000 random pictures from SEED=1 (a minute; needs gcc, libtiff-dev)'
 	@echo 'make faults         make mistakes between compare and the library: it must notice each (needs gcc, libtiff-dev)'
-	@echo 'make bench          time the library beside libtiff (needs gcc, libtiff-dev)'
+	@echo 'make bench          time the library beside libtiff, and its receiver beside memcpy (needs gcc, libtiff-dev)'
 	@echo 'make worst          instructions for each unit charged, and the deepest stack (needs gcc, libtiff-dev, valgrind)'
 	@echo
 	@echo 'What a command needs is named where it is missing; with INSTALL=1 behind it, it is installed (on Debian, as root).'

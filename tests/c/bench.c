@@ -1,12 +1,13 @@
-/* Times the reader beside libtiff on the camera's size of picture, and prints a table in Markdown.
+/* Times the reader beside libtiff on the camera's size of picture, and the receiver beside memcpy on the longest file of the
+ * camera, and prints tables in Markdown.
  *
  *     bench CAMERA MACHINE KIT [REPETITIONS]
  *
  * CAMERA is the camera's picture (640 x 480, 60 strips of 8 rows); MACHINE and KIT are names for the table's head. All is
  * done in one process, each repetition (201) measures every way of reading once, in turn, and medians are compared. All ways
  * read from memory into memory that was touched before, and no buffer is cleared between the repetitions. Pixels are compared
- * before anything is timed. The exit status is 1 if strict or patchy reading of a whole picture has less than 0.6 of libtiff's
- * speed. */
+ * before anything is timed, and so is what was received. The exit status is 1 if strict or patchy reading of a whole picture has
+ * less than 0.6 of libtiff's speed, or the receiver less than 0.5 of memcpy's. */
 #define _POSIX_C_SOURCE 200809L
 #include "../../include/chelmesut.h"
 #include "pictures.h"
@@ -19,7 +20,7 @@ enum { WIDTH = 640, HEIGHT = 480, STRIP_ROWS = 8, STRIPS = 60 };
 enum { OUTPUT = WIDTH * HEIGHT * PIXEL, SCRATCH = 10 * WIDTH * STRIP_ROWS };
 enum { MOST_REPETITIONS = 10001 };
 
-static const double wanted = 0.6;
+static const double wanted = 0.6, wanted_of_receiver = 0.5;
 
 static const struct limits limits = {2097152, 2097152, 65535, 4, 256, STRIPS};
 
@@ -139,8 +140,9 @@ static void read_patchily(const struct memory *file, const uint8_t *map)
                                sizeof output, scratch, sizeof scratch, quality, sizeof quality, answer));
 }
 
-static void read_by(enum way way, struct content *content)
+static void read_by(int way, void *by)
 {
+    struct content *content = by;
     switch (way) {
     case LIBTIFF: read_by_libtiff(&content->file, output); break;
     case STRICT: read_strictly(&content->file); break;
@@ -185,22 +187,136 @@ static int by_size(const void *a, const void *b)
     return x < y ? -1 : x > y;
 }
 
+/* The median of each of so many ways to do something, which take turns. */
+static void time_ways(void (*by)(int way, void *what), void *what, int ways, size_t repetitions, double *median)
+{
+    double *times = lend((size_t)ways * repetitions * sizeof *times);
+    for (size_t i = 0; i < repetitions; i++)
+        for (int way = 0; way < ways; way++) {
+            double start = milliseconds();
+            by(way, what);
+            times[(size_t)way * repetitions + i] = milliseconds() - start;
+        }
+    for (int way = 0; way < ways; way++) {
+        double *own = times + (size_t)way * repetitions;
+        qsort(own, repetitions, sizeof *own, by_size);
+        median[way] = own[repetitions / 2];
+    }
+    free(times);
+}
+
 static void time_content(struct content *content, size_t repetitions)
 {
-    static double times[WAYS][MOST_REPETITIONS];
     read_by_libtiff(&content->file, expected);
     for (enum way way = LIBTIFF; way < WAYS; way++)
         compare_pixels(content, way);
-    for (size_t i = 0; i < repetitions; i++)
-        for (enum way way = LIBTIFF; way < WAYS; way++) {
-            double start = milliseconds();
-            read_by(way, content);
-            times[way][i] = milliseconds() - start;
-        }
-    for (enum way way = LIBTIFF; way < WAYS; way++) {
-        qsort(times[way], repetitions, sizeof(double), by_size);
-        content->median[way] = times[way][repetitions / 2];
+    time_ways(read_by, content, WAYS, repetitions, content->median);
+}
+
+/* ---- receiving: a file of 2 MiB by its blocks, in two orders */
+
+enum { BLOCKS = 4096, SENT = BLOCKS * CHELMESUT_BLOCK };
+
+/* Both copies by memcpy take the same bytes to the same places; the second goes by the trace's blocks, as the receiver does. */
+enum delivery { COPY_AT_ONCE, COPY_BLOCKS, REPLAY, BLOCK_CALLS, DELIVERIES };
+
+struct message {
+    uint64_t number;
+    size_t at, size; /* of the block's bytes in the trace */
+};
+
+struct sending {
+    const char *order;
+    struct memory trace;
+    struct message messages[BLOCKS];
+    double median[DELIVERIES];
+};
+
+static uint8_t sent[SENT], received[SENT], map[BLOCKS];
+
+static void make_sent(void)
+{
+    struct dice dice = {2};
+    for (size_t i = 0; i < SENT; i++)
+        sent[i] = (uint8_t)(roll(&dice) >> 56);
+}
+
+static void shuffle(struct message *messages)
+{
+    struct dice dice = {BLOCKS};
+    for (uint32_t i = BLOCKS - 1; i > 0; i--) {
+        struct message *other = &messages[below(&dice, i + 1)], kept = *other;
+        *other = messages[i];
+        messages[i] = kept;
     }
+}
+
+static void make_sending(struct sending *sending, bool shuffled)
+{
+    sending->order = shuffled ? "shuffled" : "in order";
+    for (size_t i = 0; i < BLOCKS; i++)
+        sending->messages[i].number = i;
+    if (shuffled)
+        shuffle(sending->messages);
+    put_start(&sending->trace, SENT);
+    for (struct message *message = sending->messages; message < sending->messages + BLOCKS; message++) {
+        message->size = CHELMESUT_BLOCK;
+        put_block(&sending->trace, message->number, sent + message->number * CHELMESUT_BLOCK, message->size);
+        message->at = sending->trace.length - message->size;
+    }
+}
+
+static void copy_blocks(const struct sending *sending)
+{
+    for (const struct message *message = sending->messages; message < sending->messages + BLOCKS; message++)
+        memcpy(received + message->number * CHELMESUT_BLOCK, sending->trace.bytes + message->at, message->size);
+}
+
+static void call_for_each_block(const struct sending *sending)
+{
+    uint64_t words[CHELMESUT_RECEIVER_WORDS] = {0};
+    must("a start", chelmesut_receive_start(received, sizeof received, map, sizeof map, words, SENT));
+    for (const struct message *message = sending->messages; message < sending->messages + BLOCKS; message++)
+        must("a block", chelmesut_receive_block(received, sizeof received, map, sizeof map, words, message->number,
+                                                sending->trace.bytes + message->at, message->size));
+}
+
+static void replay(const struct memory *trace)
+{
+    uint64_t words[CHELMESUT_RECEIVER_WORDS] = {0};
+    must("replay", chelmesut_replay(trace->bytes, trace->length, received, sizeof received, map, sizeof map, words));
+}
+
+static void deliver_by(int delivery, void *by)
+{
+    const struct sending *sending = by;
+    switch (delivery) {
+    case COPY_AT_ONCE: memcpy(received, sent, sizeof received); break;
+    case COPY_BLOCKS: copy_blocks(sending); break;
+    case REPLAY: replay(&sending->trace); break;
+    default: call_for_each_block(sending);
+    }
+}
+
+/* Every byte came, and the receiver's map says so. */
+static void compare_received(struct sending *sending, enum delivery delivery)
+{
+    memset(received, 0xa5, sizeof received);
+    memset(map, 0xa5, sizeof map);
+    deliver_by(delivery, sending);
+    if (memcmp(received, sent, sizeof sent) != 0)
+        give_up("bench: what is received %s is not what was sent", sending->order);
+    for (size_t i = 0; i < BLOCKS; i++)
+        if (map[i] != (delivery < REPLAY ? 0xa5 : 1))
+            give_up("bench: block %zu, sent %s, is marked %d", i, sending->order, map[i]);
+}
+
+static void time_sending(struct sending *sending, bool shuffled, size_t repetitions)
+{
+    make_sending(sending, shuffled);
+    for (enum delivery delivery = COPY_AT_ONCE; delivery < DELIVERIES; delivery++)
+        compare_received(sending, delivery);
+    time_ways(deliver_by, sending, DELIVERIES, repetitions, sending->median);
 }
 
 /* ---- the tables */
@@ -266,12 +382,49 @@ static double least_ratio(const struct content *contents)
     return least;
 }
 
+enum { ORDERS = 2 };
+
+static double ratio_of_receiver(const struct sending *sending, enum delivery delivery)
+{
+    return sending->median[COPY_BLOCKS] / sending->median[delivery];
+}
+
+static void print_received(const struct sending *sendings)
+{
+    printf("\n| 2 MiB in 4096 blocks, times in ms | memcpy at once | memcpy for each block | replay of the trace "
+           "| receive_block for each | memcpy's time for each block / replay's | / receive_block's |\n");
+    printf("|---|---:|---:|---:|---:|---:|---:|\n");
+    for (const struct sending *sending = sendings; sending < sendings + ORDERS; sending++)
+        printf("| %s | %.3f | %.3f | %.3f | %.3f | %.2f | %.2f |\n", sending->order, sending->median[COPY_AT_ONCE],
+               sending->median[COPY_BLOCKS], sending->median[REPLAY], sending->median[BLOCK_CALLS],
+               ratio_of_receiver(sending, REPLAY), ratio_of_receiver(sending, BLOCK_CALLS));
+}
+
+static double least_ratio_of_receiver(const struct sending *sendings)
+{
+    double least = ratio_of_receiver(sendings, REPLAY);
+    for (const struct sending *sending = sendings; sending < sendings + ORDERS; sending++)
+        for (enum delivery delivery = REPLAY; delivery < DELIVERIES; delivery++)
+            if (least > ratio_of_receiver(sending, delivery))
+                least = ratio_of_receiver(sending, delivery);
+    return least;
+}
+
+/* Whether the least of some ratios is enough, which is said. */
+static bool enough(double least, double bound)
+{
+    printf("\nThe least of the ratios is %.2f%s; `make bench` fails where it is below %.1f.\n", least,
+           least >= bound ? "" : ", TOO LOW", bound);
+    return least >= bound;
+}
+
 int main(int arguments, char **argument)
 {
     static struct content contents[KINDS];
+    static struct sending sendings[ORDERS];
     static int16_t ring[OUTPUT / sizeof(int16_t)];
     size_t repetitions = arguments > 4 ? strtoull(argument[4], NULL, 10) : 201;
-    double least;
+    bool reads_fast, receives_fast;
     if (arguments < 4 || repetitions < 1 || repetitions > MOST_REPETITIONS)
         give_up("usage: bench CAMERA MACHINE KIT [REPETITIONS, 1 to %d]", MOST_REPETITIONS);
     read_file(&contents[RING].file, argument[1]);
@@ -283,11 +436,14 @@ int main(int arguments, char **argument)
         make_maps(&contents[kind]);
         time_content(&contents[kind], repetitions);
     }
+    make_sent();
+    for (int i = 0; i < ORDERS; i++)
+        time_sending(&sendings[i], i > 0, repetitions);
     print_head(argument[2], argument[3], repetitions);
     print_times(contents);
     print_speeds(contents);
-    least = least_ratio(contents);
-    printf("\nThe least of the ratios is %.2f%s; `make bench` fails where it is below %.1f.\n", least,
-           least >= wanted ? "" : ", TOO LOW", wanted);
-    return least >= wanted ? 0 : 1;
+    reads_fast = enough(least_ratio(contents), wanted);
+    print_received(sendings);
+    receives_fast = enough(least_ratio_of_receiver(sendings), wanted_of_receiver);
+    return reads_fast && receives_fast ? 0 : 1;
 }

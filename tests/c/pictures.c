@@ -40,6 +40,14 @@ void append(struct memory *file, const void *bytes, size_t length)
     file->length += length;
 }
 
+void put(struct memory *file, uint64_t value, size_t size)
+{
+    uint8_t bytes[8];
+    for (size_t i = 0; i < size; i++)
+        bytes[i] = (uint8_t)(value >> (8 * i));
+    append(file, bytes, size);
+}
+
 void read_file(struct memory *file, const char *path)
 {
     FILE *stream = fopen(path, "rb");
@@ -63,6 +71,20 @@ void drop(struct memory *file)
 size_t blocks_of(const struct memory *file)
 {
     return (file->length + CHELMESUT_BLOCK - 1) / CHELMESUT_BLOCK;
+}
+
+void put_start(struct memory *trace, uint64_t length)
+{
+    put(trace, 1, 1);
+    put(trace, length, 8);
+}
+
+void put_block(struct memory *trace, uint64_t number, const uint8_t *bytes, size_t size)
+{
+    put(trace, 2, 1);
+    put(trace, number, 8);
+    put(trace, size, 2);
+    append(trace, bytes, size);
 }
 
 /* splitmix64 */

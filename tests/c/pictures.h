@@ -1,5 +1,5 @@
 /* What the programs of this folder share: files in memory, LogLuv pictures that libtiff writes into them and reads from
- * them, random numbers that are the same in every run, and the limits of a call. */
+ * them, traces of their blocks, random numbers that are the same in every run, and the limits of a call. */
 #ifndef PICTURES_H
 #define PICTURES_H
 #include "../../include/chelmesut.h"
@@ -23,11 +23,16 @@ struct memory {
 };
 
 void append(struct memory *file, const void *bytes, size_t length);
+void put(struct memory *file, uint64_t value, size_t size); /* a number in so many bytes, the low byte first */
 void read_file(struct memory *file, const char *path);
 void drop(struct memory *file);
 
 /* Blocks of a file, the last perhaps short. */
 size_t blocks_of(const struct memory *file);
+
+/* The messages of a trace, as the receiver takes it. */
+void put_start(struct memory *trace, uint64_t length);
+void put_block(struct memory *trace, uint64_t number, const uint8_t *bytes, size_t size);
 
 /* Random numbers of a seed. */
 struct dice {

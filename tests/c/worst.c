@@ -19,16 +19,17 @@
 static const struct limits limits = {UINT32_MAX, UINT32_MAX, UINT32_MAX, UINT32_MAX, 65535, UINT32_MAX};
 
 enum { ROOM = 16 << 20, SEGMENT_ROOM = 65536, STACK = 1 << 20, TIMINGS = 7 };
+enum { RECEIVED = 2 << 20, RECEIVED_BLOCKS = RECEIVED / CHELMESUT_BLOCK }; /* the longest file of the camera */
 enum { FRONT_UNITS = 11 + 128 }; /* for the directory of a picture of strips, and for its profile */
 
-static uint8_t *output, *scratch, *quality;
+static uint8_t *output, *scratch, *quality, received_map[RECEIVED_BLOCKS];
 
 /* ---- inputs */
 
-enum call { INSPECT, DECODE, PATCHY, WORK_LIMIT, PREDICTOR64, PREDICTOR3, NO_CALL, CALLS };
+enum call { INSPECT, DECODE, PATCHY, WORK_LIMIT, START, BLOCK, REPLAY, PREDICTOR64, PREDICTOR3, NO_CALL, CALLS };
 
-static const char *const call_name[CALLS] = {"inspect",     "decode",     "read_patchy", "work_limit",
-                                             "predictor64", "predictor3", "none"};
+static const char *const call_name[CALLS] = {"inspect",       "decode", "read_patchy", "work_limit", "receive_start",
+                                             "receive_block", "replay", "predictor64", "predictor3", "none"};
 
 struct input {
     struct memory file;
@@ -38,12 +39,6 @@ struct input {
     uint64_t handle[CHELMESUT_HANDLE_WORDS]; /* what inspection gives, or zeros where it refuses */
     bool forged;
 };
-
-static void put(struct memory *file, uint32_t value, size_t size)
-{
-    const uint8_t bytes[4] = {(uint8_t)value, (uint8_t)(value >> 8), (uint8_t)(value >> 16), (uint8_t)(value >> 24)};
-    append(file, bytes, size);
-}
 
 static void put_header(struct memory *file)
 {
@@ -179,7 +174,7 @@ static void put_literals(struct memory *stored, size_t bytes, uint32_t length)
     for (size_t at = 0; at < bytes; at += length) {
         put(stored, length, 1);
         for (uint32_t i = 0; i < length; i++)
-            put(stored, (uint32_t)(at + i), 1);
+            put(stored, at + i, 1);
     }
 }
 
@@ -187,7 +182,7 @@ static void put_runs(struct memory *stored, size_t bytes, uint32_t length)
 {
     for (size_t at = 0; at < bytes; at += length) {
         put(stored, length + 126, 1);
-        put(stored, (uint32_t)at, 1);
+        put(stored, at, 1);
     }
 }
 
@@ -349,6 +344,21 @@ static void forged_pixels(struct input *input, uint32_t segments)
     input->forged = true;
 }
 
+/* A receiver knows no units. Each start clears the whole map. */
+static void trace_of_starts(struct input *input, uint32_t starts)
+{
+    for (uint32_t i = 0; i < starts; i++)
+        put_start(&input->file, RECEIVED);
+}
+
+static void trace_of_blocks(struct input *input, uint32_t blocks)
+{
+    static const uint8_t bytes[CHELMESUT_BLOCK];
+    put_start(&input->file, RECEIVED);
+    for (uint32_t i = 0; i < blocks; i++)
+        put_block(&input->file, i, bytes, sizeof bytes);
+}
+
 /* ---- what is run */
 
 struct trial {
@@ -390,6 +400,8 @@ static const struct trial unpaid[] = {
     {"one pixel, page 5000 of a loop, its own handle", late_page, TIMES, DECODE, DECODE},
     {"the same, a forged handle", forged_late_page, TIMES, DECODE, DECODE},
     {"10000 strips of one pixel, a forged handle", forged_pixels, 10000, DECODE, DECODE},
+    {"a trace of 2 MiB in 4096 blocks", trace_of_blocks, RECEIVED_BLOCKS, REPLAY, REPLAY},
+    {"a trace of 10000 starts, a map of 4096 bytes", trace_of_starts, 10000, REPLAY, REPLAY},
 };
 
 enum { PAID = sizeof paid / sizeof *paid, UNPAID = sizeof unpaid / sizeof *unpaid };
@@ -421,6 +433,7 @@ static uint64_t perform(enum call call, const struct input *input, uint64_t *uni
 {
     const struct memory *file = &input->file;
     uint64_t budget = input->budget, number = 0, limit = 0, words[CHELMESUT_HANDLE_WORDS];
+    uint64_t receiver[CHELMESUT_RECEIVER_WORDS] = {1, RECEIVED};
     switch (call) {
     case INSPECT:
         number = chelmesut_inspect(file->bytes, file->length, input->page, WORDS_OF(limits), &budget, words);
@@ -434,6 +447,16 @@ static uint64_t perform(enum call call, const struct input *input, uint64_t *uni
                                        WORDS_OF(limits), &budget, output, ROOM, scratch, ROOM, quality, SEGMENT_ROOM, words);
         break;
     case WORK_LIMIT: number = chelmesut_work_limit(input->page, WORDS_OF(limits), &limit); break;
+    case START:
+        number = chelmesut_receive_start(output, RECEIVED, received_map, sizeof received_map, receiver, RECEIVED);
+        break;
+    case BLOCK:
+        number = chelmesut_receive_block(output, RECEIVED, received_map, sizeof received_map, receiver, 0, file->bytes,
+                                         CHELMESUT_BLOCK);
+        break;
+    case REPLAY:
+        number = chelmesut_replay(file->bytes, file->length, output, RECEIVED, received_map, sizeof received_map, receiver);
+        break;
     case PREDICTOR64:
         number = chelmesut_predictor64(file->bytes, 8 * 64 * 48 * 3, 64, 48, 3, 16, true, true, output, ROOM);
         break;
@@ -579,6 +602,13 @@ static size_t depth_of(enum call call, const struct input *input)
 
 static size_t deepest[CALLS];
 
+static void measure_depth(enum call call, const struct input *input)
+{
+    size_t depth = depth_of(call, input);
+    if (deepest[call] < depth)
+        deepest[call] = depth;
+}
+
 struct result {
     uint64_t number, units, instructions;
     double time;
@@ -589,11 +619,9 @@ static struct result result_of(enum call call, const struct input *input, FILE *
 {
     struct result result;
     unsigned long long instructions;
-    size_t depth = depth_of(call, input);
     if (fscanf(counts, "%llu", &instructions) != 1)
         give_up("worst: too few numbers were counted");
-    if (deepest[call] < depth)
-        deepest[call] = depth;
+    measure_depth(call, input);
     result.number = perform(call, input, &result.units);
     result.instructions = instructions;
     result.time = time_of(call, input);
@@ -646,7 +674,7 @@ static void measure_others(void)
     struct input input = {.budget = 0};
     many_entries(&input, 60000);
     for (enum call call = WORK_LIMIT; call <= PREDICTOR3; call++)
-        deepest[call] = depth_of(call, &input);
+        measure_depth(call, &input);
     drop_input(&input);
 }
 
