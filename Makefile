@@ -109,7 +109,8 @@ compare:
 	target/compare $(COUNT) $(SEED)
 
 # Compare's calls go by way of tests/c/faults.c.
-faults: LDFLAGS = -Wl,--wrap=chelmesut_inspect,--wrap=chelmesut_decode,--wrap=chelmesut_read_patchy
+faults: LDFLAGS = -Wl,--wrap=chelmesut_inspect,--wrap=chelmesut_decode,--wrap=chelmesut_read_patchy \
+	-Wl,--wrap=chelmesut_receive_start,--wrap=chelmesut_receive_block,--wrap=chelmesut_replay
 faults:
 	@tools/need gcc libtiff-dev
 	@$(call build,faults,compare.c faults.c)

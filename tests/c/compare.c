@@ -1,5 +1,6 @@
 /* Compares the reader with libtiff on pictures that libtiff makes of random shapes and contents: every pixel, every word of the
  * handle and the answer, every unit charged, every quality byte, and every byte of a lent buffer that is to stay or to be zero.
+ * Half of the files with lost blocks come by way of the receiver, which must have made of the messages what was lost and sent.
  *
  *     compare [COUNT [SEED]]
  *
@@ -45,7 +46,7 @@ struct picture {
 
 /* What a run counts, for its last line. */
 static struct {
-    uint64_t pages, pixels, patchy, good, missing, refused;
+    uint64_t pages, pixels, patchy, good, missing, refused, received;
 } sum;
 
 /* ---- saying what differs */
@@ -709,6 +710,138 @@ static struct memory with_stale_blocks(struct dice *dice, const struct memory *f
     return stale;
 }
 
+/* ---- receiving */
+
+/* A receiver that is told of each message by a call of its own, or of all at the end by the replay of their trace. */
+struct bus {
+    bool recorded;
+    struct memory trace;
+    struct buffer file, map;
+    uint64_t words[CHELMESUT_RECEIVER_WORDS + GUARD];
+};
+
+static void send_start(struct bus *bus, uint64_t length, uint64_t number)
+{
+    now.number = number;
+    if (bus->recorded)
+        put_start(&bus->trace, length);
+    else
+        same("the number of a start",
+             chelmesut_receive_start(bus->file.bytes, bus->file.length, bus->map.bytes, bus->map.length, bus->words, length),
+             number);
+}
+
+static void send_block(struct bus *bus, uint64_t block, const uint8_t *bytes, size_t size, uint64_t number)
+{
+    now.number = number;
+    if (bus->recorded)
+        put_block(&bus->trace, block, bytes, size);
+    else
+        same("the number of a block",
+             chelmesut_receive_block(bus->file.bytes, bus->file.length, bus->map.bytes, bus->map.length, bus->words, block,
+                                     bytes, size),
+             number);
+}
+
+/* The trace so far, at times with a message behind it that is cut or none at all. */
+static void replay(struct dice *dice, struct bus *bus)
+{
+    now.number = below(dice, 3);
+    if (now.number == CHELMESUT_TRUNCATED)
+        put(&bus->trace, 2, 1 + below(dice, 8));
+    if (now.number == CHELMESUT_INVALID)
+        put(&bus->trace, 3, 1);
+    same("the number of a replay",
+         chelmesut_replay(bus->trace.bytes, bus->trace.length, bus->file.bytes, bus->file.length, bus->map.bytes,
+                          bus->map.length, bus->words),
+         now.number);
+}
+
+static size_t size_of_block(const struct memory *file, size_t block)
+{
+    size_t rest = file->length - block * CHELMESUT_BLOCK;
+    return rest < CHELMESUT_BLOCK ? rest : CHELMESUT_BLOCK;
+}
+
+static void send_own(struct bus *bus, const struct memory *file, size_t block)
+{
+    send_block(bus, block, file->bytes + block * CHELMESUT_BLOCK, size_of_block(file, block), CHELMESUT_OK);
+}
+
+/* A message that changes nothing. */
+static void send_refused(struct dice *dice, struct bus *bus, const struct memory *file)
+{
+    static const uint8_t bytes[CHELMESUT_BLOCK + 1];
+    size_t block = below(dice, (uint32_t)blocks_of(file)), size = size_of_block(file, block);
+    switch (below(dice, 3)) {
+    case 0: send_start(bus, bus->file.length + 1 + (roll(dice) >> 1), CHELMESUT_RECEIVER_TOO_SMALL); break;
+    case 1: send_block(bus, blocks_of(file) + (roll(dice) >> 1), bytes, size, CHELMESUT_NO_SUCH_BLOCK); break;
+    default: send_block(bus, block, bytes, one_in(dice, 2) ? size + 1 : size - 1, CHELMESUT_BLOCK_SIZE);
+    }
+}
+
+/* The blocks that came, each in its turn or later, some of them before with other bytes and some once more. */
+static void send_what_came(struct dice *dice, struct bus *bus, const struct memory *file, const uint8_t *map)
+{
+    uint8_t other[CHELMESUT_BLOCK];
+    size_t blocks = blocks_of(file), *order = lend(blocks * sizeof *order);
+    memset(other, (uint8_t)roll(dice), sizeof other);
+    for (size_t i = 0; i < blocks; i++) {
+        size_t place = below(dice, (uint32_t)i + 1);
+        order[i] = order[place];
+        order[place] = i;
+    }
+    for (size_t i = 0; i < blocks; i++) {
+        if (one_in(dice, 4))
+            send_refused(dice, bus, file);
+        if (map[order[i]] != 1)
+            continue;
+        if (one_in(dice, 4))
+            send_block(bus, order[i], other, size_of_block(file, order[i]), CHELMESUT_OK);
+        send_own(bus, file, order[i]);
+        if (one_in(dice, 4))
+            send_own(bus, file, order[i]);
+    }
+    free(order);
+}
+
+/* Sends a file of which some blocks are lost, and requires that it comes as it is, and its map with it. An earlier file leaves in
+ * the buffer what stands in the place of the lost blocks. The map is made as a receiver leaves it, with 0 for a lost block. */
+static void receive(struct dice *dice, const struct memory *file, uint8_t *map, size_t blocks)
+{
+    const uint64_t expected[CHELMESUT_RECEIVER_WORDS] = {1, file->length};
+    struct bus bus = {.recorded = one_in(dice, 2),
+                      .file = new_buffer(dice, "the received file", file->length),
+                      .map = new_buffer(dice, "the received map", blocks)};
+    now.reading = bus.recorded ? "the replay of a trace" : "receiving blocks";
+    fill_words(bus.words, CHELMESUT_RECEIVER_WORDS);
+    send_block(&bus, 0, file->bytes, size_of_block(file, 0), CHELMESUT_NO_SUCH_BLOCK);
+    send_start(&bus, file->length, CHELMESUT_OK);
+    for (size_t block = 0; block < blocks; block++) {
+        map[block] = map[block] == 1;
+        if (!map[block])
+            send_own(&bus, file, block);
+    }
+    send_start(&bus, file->length, CHELMESUT_OK);
+    send_what_came(dice, &bus, file, map);
+    if (bus.recorded)
+        replay(dice, &bus);
+
+    words_are("receiver", bus.words, expected, CHELMESUT_RECEIVER_WORDS);
+    for (size_t i = 0; i < file->length; i++)
+        if (bus.file.bytes[i] != file->bytes[i])
+            differ("byte %zu of %s is %u, expected %u", i, bus.file.name, bus.file.bytes[i], file->bytes[i]);
+    for (size_t block = 0; block < blocks; block++)
+        if (bus.map.bytes[block] != map[block])
+            differ("byte %zu of %s is %u, expected %u", block, bus.map.name, bus.map.bytes[block], map[block]);
+    stays_from(&bus.file, file->length);
+    zero_from(&bus.map, blocks, bus.map.length);
+    sum.received++;
+    free(bus.file.bytes);
+    free(bus.map.bytes);
+    drop(&bus.trace);
+}
+
 static void read_every_map(struct dice *dice, const struct picture *picture, const struct limits *limits)
 {
     const struct page *page = &picture->page[now.page];
@@ -735,13 +868,15 @@ static void read_every_map(struct dice *dice, const struct picture *picture, con
     now.map_length = blocks + 1;
     patchy_refused(dice, picture, now.page, limits, units, NONE_SHORT, CHELMESUT_MAP_SIZE, units);
 
-    now.reading = "patchy reading with lost blocks";
     now.map_length = blocks;
     for (uint32_t turn = 0; turn < 3; turn++) {
         struct memory stale;
         some_map(dice, picture, map, blocks);
         stale = with_stale_blocks(dice, &picture->file, map);
         now.file = &stale;
+        if (one_in(dice, 2))
+            receive(dice, &stale, map, blocks);
+        now.reading = "patchy reading with lost blocks";
         read_patchily(dice, picture, limits);
         now.file = &picture->file;
         drop(&stale);
@@ -832,7 +967,8 @@ int main(int arguments, char **argument)
     }
     printf("compare: no difference from libtiff %s: %" PRIu64 " pictures from seed %" PRIu64 ", %" PRIu64 " pages, %" PRIu64
            " pixels; %" PRIu64 " patchy calls, in which %" PRIu64 " segments were good and %" PRIu64 " lost, and %" PRIu64
-           " calls lacked what comes before the segments\n",
-           libtiff_version(), count, seed, sum.pages, sum.pixels, sum.patchy, sum.good, sum.missing, sum.refused);
+           " calls lacked what comes before the segments; %" PRIu64 " files with lost blocks came by way of the receiver\n",
+           libtiff_version(), count, seed, sum.pages, sum.pixels, sum.patchy, sum.good, sum.missing, sum.refused,
+           sum.received);
     return 0;
 }

@@ -1,6 +1,7 @@
 /* Mistakes between compare and the reader, one at a time, each of which compare must notice. It is linked into compare with
  *
  *     -Wl,--wrap=chelmesut_inspect,--wrap=chelmesut_decode,--wrap=chelmesut_read_patchy
+ *     -Wl,--wrap=chelmesut_receive_start,--wrap=chelmesut_receive_block,--wrap=chelmesut_replay
  *
  * so that compare's calls come here. The environment's FAULT is the number of the mistake; with a number after the last one the
  * program ends with status 3. */
@@ -21,6 +22,12 @@ uint64_t __real_chelmesut_read_patchy(const uint8_t *file, size_t file_len, cons
                                       uint64_t page, CHELMESUT_LIMITS, uint64_t *budget, uint8_t *output, size_t output_len,
                                       uint8_t *scratch, size_t scratch_len, uint8_t *quality, size_t quality_len,
                                       uint64_t answer[5]);
+uint64_t __real_chelmesut_receive_start(uint8_t *file, size_t file_len, uint8_t *map, size_t map_len, uint64_t receiver[2],
+                                        uint64_t length);
+uint64_t __real_chelmesut_receive_block(uint8_t *file, size_t file_len, uint8_t *map, size_t map_len, uint64_t receiver[2],
+                                        uint64_t number, const uint8_t *bytes, size_t bytes_len);
+uint64_t __real_chelmesut_replay(const uint8_t *trace, size_t trace_len, uint8_t *file, size_t file_len, uint8_t *map,
+                                 size_t map_len, uint64_t receiver[2]);
 uint64_t __wrap_chelmesut_inspect(const uint8_t *file, size_t file_len, uint64_t page, CHELMESUT_LIMITS, uint64_t *budget,
                                   uint64_t handle[17]);
 uint64_t __wrap_chelmesut_decode(const uint8_t *file, size_t file_len, uint64_t page, CHELMESUT_LIMITS,
@@ -30,6 +37,12 @@ uint64_t __wrap_chelmesut_read_patchy(const uint8_t *file, size_t file_len, cons
                                       uint64_t page, CHELMESUT_LIMITS, uint64_t *budget, uint8_t *output, size_t output_len,
                                       uint8_t *scratch, size_t scratch_len, uint8_t *quality, size_t quality_len,
                                       uint64_t answer[5]);
+uint64_t __wrap_chelmesut_receive_start(uint8_t *file, size_t file_len, uint8_t *map, size_t map_len, uint64_t receiver[2],
+                                        uint64_t length);
+uint64_t __wrap_chelmesut_receive_block(uint8_t *file, size_t file_len, uint8_t *map, size_t map_len, uint64_t receiver[2],
+                                        uint64_t number, const uint8_t *bytes, size_t bytes_len);
+uint64_t __wrap_chelmesut_replay(const uint8_t *trace, size_t trace_len, uint8_t *file, size_t file_len, uint8_t *map,
+                                 size_t map_len, uint64_t receiver[2]);
 
 enum fault {
     NONE,
@@ -57,6 +70,12 @@ enum fault {
     PATCHY_BYTE_AFTER_OUTPUT,
     PATCHY_ANSWER_ON_REFUSAL,
     PATCHY_WRONG_MAP_TAKEN,
+    START_LEAVES_MARKS,
+    START_CLEARS_FILE,
+    BLOCK_AGAIN_PASSED_OVER,
+    BLOCK_MARKED_ON_REFUSAL,
+    REPLAY_FORGETS_WHERE_IT_STOPS,
+    REPLAY_TAKES_CUT_FOR_END,
     FAULTS
 };
 
@@ -187,5 +206,45 @@ uint64_t __wrap_chelmesut_read_patchy(const uint8_t *file, size_t file_len, cons
     free(seen);
     free(before);
     free(marks);
+    return number;
+}
+
+uint64_t __wrap_chelmesut_receive_start(uint8_t *file, size_t file_len, uint8_t *map, size_t map_len, uint64_t receiver[2],
+                                        uint64_t length)
+{
+    uint8_t *marks = copy_of(map, map_len);
+    uint64_t number = __real_chelmesut_receive_start(file, file_len, map, map_len, receiver, length);
+    if (fault == START_LEAVES_MARKS)
+        memcpy(map, marks, map_len);
+    if (fault == START_CLEARS_FILE && number == 0)
+        memset(file, 0, length);
+    free(marks);
+    return number;
+}
+
+uint64_t __wrap_chelmesut_receive_block(uint8_t *file, size_t file_len, uint8_t *map, size_t map_len, uint64_t receiver[2],
+                                        uint64_t number, const uint8_t *bytes, size_t bytes_len)
+{
+    uint8_t *before = copy_of(file, file_len);
+    bool again = number < map_len && map[number] == 1;
+    uint64_t answer = __real_chelmesut_receive_block(file, file_len, map, map_len, receiver, number, bytes, bytes_len);
+    if (fault == BLOCK_AGAIN_PASSED_OVER && again)
+        memcpy(file, before, file_len);
+    if (fault == BLOCK_MARKED_ON_REFUSAL && answer == CHELMESUT_BLOCK_SIZE)
+        map[number] = 1;
+    free(before);
+    return answer;
+}
+
+uint64_t __wrap_chelmesut_replay(const uint8_t *trace, size_t trace_len, uint8_t *file, size_t file_len, uint8_t *map,
+                                 size_t map_len, uint64_t receiver[2])
+{
+    uint8_t *bytes = copy_of(file, file_len);
+    uint64_t number = __real_chelmesut_replay(trace, trace_len, file, file_len, map, map_len, receiver);
+    if (fault == REPLAY_FORGETS_WHERE_IT_STOPS && number != 0)
+        memcpy(file, bytes, file_len);
+    if (fault == REPLAY_TAKES_CUT_FOR_END && number == CHELMESUT_TRUNCATED)
+        number = 0;
+    free(bytes);
     return number;
 }
