@@ -12,14 +12,13 @@ use borrow.Author.Needs.{needs}
 use borrow.Author.Tests.{lt-ltb, le-ltb, le-leb, lt-leb, eq-eqb, ne-eqb, ltb-true, leb-true, eqb-true, not-true, not-false}
 use Rattle.checks.specs.Numbers.{receiverTooSmall, noSuchBlock, blockSize}
 use Rattle.lists.specs.Lists.{pick}
-use Rattle.placing.specs.Placing.{BytesPlaced}
 use Rattle.lists.proofs.Lesser.{lesser-min}
 use Rattle.checks.specs.Checks.{verdict, Holds}
 use Rattle.checks.proofs.Exact.{fine}
 use Rattle.seen.proofs.Blocks.{true-false}
 use Rattle.checks.specs.declared.Verdict.{Verdict}
 use Rattle.checks.specs.declared.Verdict.the-variants.{Fine, Refused}
-use Rattle.seen.specs.Seen.{blocksIn, blockStart, blockLength, mapLength, alsoCame}
+use Rattle.seen.specs.Seen.{blocksIn, blockStart, blockLength, mapLength}
 use Rattle.receiver.specs.declared.Receiver.{Receiver}
 use Rattle.receiver.specs.Trace.{Message, start, block}
 use Rattle.receiver.specs.Receiver.{Reception, lent, sufficesFor, startChecks, blockChecks, Suffice, Admits, answerTo, accepted, onFine, received, Answers}
@@ -149,12 +148,6 @@ pub ruleset starts = (start-refused, start-taken, not-true, not-false, needs)
 pub ruleset blocks = (block-refused, block-taken, block-has-place, needs)
 
 pub ruleset block-parts = (block-part, needs)
-
-pub placed : (number at end : ℕ) (bytes file file′ map map′ : List ℕ) → BytesPlaced bytes (number * 512) file end file′ → map′ ≡ alsoCame number map
-    → Placed number bytes file map file′ map′
-placed number at end bytes file file′ map map′ p m = record { file-is = p .bytes; map-is = m }
-
-pub ruleset places = (placed, needs)
 
 -- which answer it is decides what a message leaves
 module _ (m : Message) (s : Reception) where

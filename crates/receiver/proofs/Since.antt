@@ -107,12 +107,12 @@ module _ (size file map : ℕ) (fit : Suffice size file map) where
     admitted : (b : ℕ) (bytes : List ℕ) → Admits (s .receiver) b (length bytes) (length (s .file)) (length (s .map)) ↔ BlockOf size b bytes
     admitted b bytes = (
       λ a. let e : s .receiver .length ≡ size = ap (λ (r : Receiver). r .length) (d .state-is) in
-          record { in-picture = rw e at (a .in-picture); whole = rw e at (a .size-is) },
+          record { in-picture = rw e at (a .in-picture); whole = omega (arith, rw e at (a .size-is)) },
       λ w. record {
         is-started = ap (λ (r : Receiver). r .started) (d .state-is);
         suffice = rw (d .state-is, d .file-long, d .map-long) fit;
         in-picture = rw (d .state-is) (w .in-picture);
-        size-is = rw (d .state-is) (w .whole);
+        size-is = rw (d .state-is) (omega (arith, w .whole));
       },
     )
 
