@@ -7,7 +7,7 @@ use patchy::Reading;
 ghost use Rattle.face_words.specs.Words.{limitsOf};
 ghost use Rattle.chelmesut.specs.Face.{Inspect, Decode, ReadPatchy};
 ghost use Rattle.face_leaves.specs.Leaves.{WorkLimit, Predictor64, Predictor3};
-ghost use Rattle.receiver.specs.Trace.{start, block};
+ghost use Rattle.trace.specs.Trace.{start, block};
 ghost use Rattle.face_receiver.specs.Reception.{Receive, Replay};
 
 // Strict inspection.

@@ -6,7 +6,7 @@ use mathlib.Core.List.{List, [], _∷_}
 use borrow.Author.Needs.{needs}
 use Rattle.checks.specs.Numbers.{verdictNumber}
 use Rattle.checks.specs.declared.Verdict.{Verdict}
-use Rattle.receiver.specs.Trace.{Message}
+use Rattle.trace.specs.Trace.{Message}
 use Rattle.receiver.specs.Receiver.{Reception, lent, Answers, Replays}
 use Rattle.receiver.specs.declared.Receiver.{Receiver}
 use Rattle.face_receiver.specs.Reception.{receiverOf, receiverWords, lentWords, Receive, Replay}

@@ -2,7 +2,7 @@
 use Prim.Native.Nat.{ℕ}
 use mathlib.Core.Path.{_≡_, sym, _∙_}
 use mathlib.Core.List.{List}
-use Rattle.receiver.specs.Trace.{Message}
+use Rattle.trace.specs.Trace.{Message}
 use Rattle.face_receiver.specs.Reception.{Receive, Replay}
 
 module _ (file map words : List ℕ) {n m : ℕ} {x x′ y y′ z z′ : List ℕ} where

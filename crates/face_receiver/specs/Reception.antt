@@ -6,7 +6,7 @@ use lib.ListN.{getD}
 use lib.Dec.{eqb}
 use Rattle.lists.specs.Lists.{pick}
 use Rattle.checks.specs.Numbers.{verdictNumber}
-use Rattle.receiver.specs.Trace.{Message, traceOf}
+use Rattle.trace.specs.Trace.{Message, traceOf}
 use Rattle.receiver.specs.Receiver.{Reception, lent, answerTo, received, receivedAll}
 use Rattle.receiver.specs.declared.Receiver.{Receiver}
 

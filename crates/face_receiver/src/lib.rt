@@ -1,7 +1,7 @@
 // The calls of the C face over a receiver, with its state as two words and numbers for its answers.
 use receiver::Receiver;
 ghost use mathlib.Core.Path.{_≡_};
-ghost use Rattle.receiver.specs.Trace.{start, block};
+ghost use Rattle.trace.specs.Trace.{start, block};
 ghost use Rattle.face_receiver.specs.Reception.{receiverOf, receiverWords, Receive, Replay};
 
 // The receiver that words stand for.

@@ -11,12 +11,12 @@ use Rattle.checks.specs.declared.Verdict.the-variants.{Fine, Refused}
 use Rattle.checks.proofs.Exact.{refused-fine}
 use Rattle.checks.proofs.Refusals.{refused-free}
 use Rattle.receiver.specs.declared.Receiver.{Receiver}
-use Rattle.receiver.specs.Trace.{Message, start, block, traceOf}
+use Rattle.trace.specs.Trace.{Message, start, block, traceOf}
 use Rattle.receiver.specs.Receiver.{Reception, messageChecks, answerTo, received, receivedAll}
-use Rattle.receiver.specs.Since.{LastStart, Kept}
+use Rattle.promises.specs.Since.{LastStart, Kept}
 use Rattle.receiver.proofs.Receiving.{start-accepted, refused-leaves}
-use Rattle.receiver.proofs.Since.{received-append, last-start, next-accepted, kept, block-before, idle-all}
-use Rattle.receiver.proofs.Written.{nothing-written, all-written, cut-written, foreign-byte}
+use Rattle.promises.proofs.Since.{received-append, last-start, next-accepted, kept, block-before, idle-all}
+use Rattle.trace.proofs.Written.{nothing-written, all-written, cut-written, foreign-byte}
 use Rattle.face_receiver.specs.Reception.{receiverOf, receiverWords, lentWords, Replay}
 use Rattle.promises.specs.Bus.{Bus}
 

@@ -18,4 +18,5 @@ pub mod Whole
 pub mod Lending
 pub mod Witness
 pub mod Demands
+pub mod Since
 pub mod Bus

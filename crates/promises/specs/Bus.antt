@@ -1,6 +1,6 @@
 -- The receiver's promise as one record whose fields are its sentences, over every trace and every state (group 11 of the rules). What they speak of is
--- defined in crates/receiver/specs: the messages of a trace, the receiver as a fold over them, and apart from both what was accepted since the last
--- accepted start. proofs/Bus.antt inhabits the record once.
+-- defined in crates/trace and crates/receiver: the messages of a trace, and the receiver as a fold over them; and, apart from both, in Since.antt beside
+-- this file: what was accepted since the last accepted start. proofs/Bus.antt inhabits the record once.
 use Prim.Native.Nat.{ℕ, _<_}
 use mathlib.Core.Path.{_≡_}
 use mathlib.Core.Logic.{_↔_}
@@ -10,9 +10,9 @@ use lib.ListN.{length}
 use Rattle.checks.specs.Numbers.{truncated, invalid, noSuchBlock}
 use Rattle.checks.specs.Exact.{RefusedAt}
 use Rattle.checks.specs.declared.Verdict.the-variants.{Fine, Refused}
-use Rattle.receiver.specs.Trace.{Message, start, block, traceOf, endsWith, written, Writable, writtenAll, EachWritable, goesOnAll}
+use Rattle.trace.specs.Trace.{Message, start, block, traceOf, endsWith, written, Writable, writtenAll, EachWritable, goesOnAll}
 use Rattle.receiver.specs.Receiver.{Reception, Suffice, messageChecks, answerTo, received, receivedAll}
-use Rattle.receiver.specs.Since.{StartAmong, LastStart, BlockOf, Kept}
+use Rattle.promises.specs.Since.{StartAmong, LastStart, BlockOf, Kept}
 use Rattle.face_receiver.specs.Reception.{receiverOf, lentWords, Replay}
 
 pub record Bus : Type 0 where

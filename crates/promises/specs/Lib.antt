@@ -6,4 +6,5 @@ pub mod StrictCall
 pub mod Patchy
 pub mod Witness
 pub mod Demands
+pub mod Since
 pub mod Bus

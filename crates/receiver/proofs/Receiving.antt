@@ -20,7 +20,7 @@ use Rattle.checks.specs.declared.Verdict.{Verdict}
 use Rattle.checks.specs.declared.Verdict.the-variants.{Fine, Refused}
 use Rattle.seen.specs.Seen.{blocksIn, blockStart, blockLength, mapLength}
 use Rattle.receiver.specs.declared.Receiver.{Receiver}
-use Rattle.receiver.specs.Trace.{Message, start, block}
+use Rattle.trace.specs.Trace.{Message, start, block}
 use Rattle.receiver.specs.Receiver.{Reception, lent, sufficesFor, startChecks, blockChecks, Suffice, Admits, answerTo, accepted, onFine, received, Answers}
 use Rattle.receiver.specs.Inner.{HasPlace, Placed}
 

@@ -1,4 +1,2 @@
-pub mod Trace
 pub mod Receiver
-pub mod Since
 pub mod Inner

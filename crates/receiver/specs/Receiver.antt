@@ -12,7 +12,7 @@ use Rattle.checks.specs.declared.Verdict.{Verdict}
 use Rattle.checks.specs.declared.Verdict.the-variants.{Fine, Refused}
 use Rattle.seen.specs.Seen.{blocksIn, blockStart, blockLength, mapLength, noneCame, alsoCame}
 use Rattle.receiver.specs.declared.Receiver.{Receiver}
-use Rattle.receiver.specs.Trace.{Message, start, block, Trace, traceOf}
+use Rattle.trace.specs.Trace.{Message, start, block, Trace, traceOf}
 
 -- the receiver's state, the file buffer and the map that it was lent
 pub record Reception : Type 0 where

@@ -11,12 +11,9 @@ ghost use mathlib.Core.Bool.{false};
 ghost use Prim.Native.Nat.{_+_, _≤_};
 ghost use lib.ListN.{length, take, drop};
 ghost use Rattle.checks.specs.Checks.{verdict};
-ghost use Rattle.receiver.specs.Trace.{start, block};
+ghost use Rattle.trace.specs.Trace.{start, block};
 ghost use Rattle.receiver.specs.Receiver.{lent, sufficesFor, blockChecks, Answers, Replays};
 ghost use Rattle.receiver.specs.Inner.{HasPlace, Placed};
-
-// The messages of a trace.
-pub mod trace;
 
 // Whether a start was accepted, and the length of its picture. By itself it holds nothing else: file buffer and map are lent.
 pub struct Receiver {

@@ -7,7 +7,7 @@ use crate::line::say;
 use crate::paths::append;
 use receiver::Received;
 use receiver::Receiver;
-use receiver::trace::Next;
+use trace::Next;
 
 // A block can have 65535 bytes, for which a file of records has no room: as many of these as it says come after a record's own.
 const TAIL: u8 = 90;
@@ -60,7 +60,7 @@ fn put_next(next: Next) {
 }
 
 fn replay(trace: &[u8], file: &mut [u8], map: &mut [u8], state: Receiver) {
-    put_next(receiver::trace::first(trace));
+    put_next(trace::first(trace));
     put_received(receiver::replay(trace, file, map, state));
 }
 

@@ -20,11 +20,11 @@ use Rattle.checks.proofs.Exact.{refused-fine}
 use Rattle.seen.specs.Seen.{blocksIn, blockStart, blockLength, blockCame, alsoCame, noneCame}
 use Rattle.seen.proofs.Blocks.{true-false}
 use Rattle.seen.proofs.Arrivals.{also-length, also-came, also-byte, also-other, none-came}
 use Rattle.receiver.specs.declared.Receiver.{Receiver}
-use Rattle.receiver.specs.Trace.{Message, start, block}
+use Rattle.trace.specs.Trace.{Message, start, block}
 use Rattle.receiver.specs.Receiver.{Reception, lent, sufficesFor, Suffice, Admits, answerTo, accepted, received, receivedAll}
-use Rattle.receiver.specs.Since.{Among, StartAmong, LastStart, BlockOf, CameSince, CameLast, Untouched, Kept}
+use Rattle.promises.specs.Since.{Among, StartAmong, LastStart, BlockOf, CameSince, CameLast, Untouched, Kept}
 use Rattle.receiver.proofs.Receiving.{suffices-exact, before-start, admitted-place, fine-takes, refused-leaves, start-accepted, block-accepted}
 
 -- messages one after the other
 pub received-append : (a b : List Message) (s : Reception) → receivedAll (a ++ b) s ≡ receivedAll b (receivedAll a s)

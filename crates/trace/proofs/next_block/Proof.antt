@@ -1,7 +1,7 @@
 -- The size is read first, as it says how long the message is.
-use Rattle.receiver.proofs.Messages.{beginnings}
-use Rattle.receiver.proofs.trace.next_block.Statement.{statement}
-use Rattle.receiver.proofs.trace.next_block.Tie as tie
+use Rattle.trace.proofs.Messages.{beginnings}
+use Rattle.trace.proofs.next_block.Statement.{statement}
+use Rattle.trace.proofs.next_block.Tie as tie
 
 returns : tie.Need-returns
 returns c = search beginnings

@@ -13,11 +13,11 @@ use Rattle.checks.specs.Numbers.{truncated, invalid}
 use Rattle.checks.specs.declared.Verdict.the-variants.{Fine, Refused}
 use Rattle.words64.specs.Words64.{numberFrom, digits}
 use Rattle.words64.proofs.Digits.{digits-length, number-digits}
-use Rattle.receiver.specs.declared.trace.Next.{Next}
-use Rattle.receiver.specs.declared.trace.Next.the-variants.{Over, Cut, Foreign, Start, Block}
-use Rattle.receiver.specs.Trace.{Message, start, block, Trace, sizeIn, nextOf, endsWith, goesOn, traceFrom, traceOf, written, Writable, writtenAll, EachWritable, goesOnAll}
-use Rattle.receiver.proofs.Messages.{first-foreign}
-use Rattle.receiver.proofs.Replaying.{begins}
+use Rattle.trace.specs.declared.Next.{Next}
+use Rattle.trace.specs.declared.Next.the-variants.{Over, Cut, Foreign, Start, Block}
+use Rattle.trace.specs.Trace.{Message, start, block, Trace, sizeIn, nextOf, endsWith, goesOn, traceFrom, traceOf, written, Writable, writtenAll, EachWritable, goesOnAll}
+use Rattle.trace.proofs.Messages.{first-foreign}
+use Rattle.trace.proofs.Traces.{begins}
 
 -- nothing
 pub nothing-written : traceOf [] ≡ endsWith Fine

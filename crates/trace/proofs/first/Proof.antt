@@ -1,7 +1,7 @@
 -- The first byte says which message it is.
-use Rattle.receiver.proofs.Messages.{beginnings}
-use Rattle.receiver.proofs.trace.first.Statement.{statement}
-use Rattle.receiver.proofs.trace.first.Tie as tie
+use Rattle.trace.proofs.Messages.{beginnings}
+use Rattle.trace.proofs.first.Statement.{statement}
+use Rattle.trace.proofs.first.Tie as tie
 
 returns : tie.Need-returns
 returns c = search beginnings

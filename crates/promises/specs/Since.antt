@@ -6,9 +6,9 @@ use mathlib.Core.List.{List, _∷_, _++_}
 use mathlib.Core.Bool.{true}
 use lib.ListN.{length, take, drop, getD}
 use Rattle.seen.specs.Seen.{blocksIn, blockStart, blockLength, blockCame}
 use Rattle.receiver.specs.declared.Receiver.{Receiver}
-use Rattle.receiver.specs.Trace.{Message, start, block}
+use Rattle.trace.specs.Trace.{Message, start, block}
 use Rattle.receiver.specs.Receiver.{Suffice}
 
 -- a message is among others
 pub record Among (m : Message) (messages : List Message) : Type 0 where

@@ -1,7 +1,7 @@
 -- Two bytes, the least significant first.
-use Rattle.receiver.proofs.Messages.{numbers}
-use Rattle.receiver.proofs.trace.short.Statement.{statement}
-use Rattle.receiver.proofs.trace.short.Tie as tie
+use Rattle.trace.proofs.Messages.{numbers}
+use Rattle.trace.proofs.short.Statement.{statement}
+use Rattle.trace.proofs.short.Tie as tie
 
 shared-slice-read-wide : tie.Need-shared-slice-read-wide
 shared-slice-read-wide c = search numbers

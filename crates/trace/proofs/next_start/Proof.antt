@@ -1,7 +1,7 @@
 -- The length is read where all its bytes are there.
-use Rattle.receiver.proofs.Messages.{beginnings}
-use Rattle.receiver.proofs.trace.next_start.Statement.{statement}
-use Rattle.receiver.proofs.trace.next_start.Tie as tie
+use Rattle.trace.proofs.Messages.{beginnings}
+use Rattle.trace.proofs.next_start.Statement.{statement}
+use Rattle.trace.proofs.next_start.Tie as tie
 
 sub-number : tie.Need-sub-number
 sub-number c = search beginnings

@@ -12,9 +12,9 @@ use borrow.Rule.Slice.PartMut.{midOf}
 use Rattle.lists.specs.Lists.{span}
 use Rattle.lists.proofs.Overlay.{listed}
 use Rattle.words64.specs.Words64.{numberFrom, word}
-use Rattle.receiver.specs.declared.trace.Next.{Next}
-use Rattle.receiver.specs.declared.trace.Next.the-variants.{Over, Cut, Foreign, Start, Block}
-use Rattle.receiver.specs.Trace.{startIn, blockIn, sizeIn, nextOf}
+use Rattle.trace.specs.declared.Next.{Next}
+use Rattle.trace.specs.declared.Next.the-variants.{Over, Cut, Foreign, Start, Block}
+use Rattle.trace.specs.Trace.{startIn, blockIn, sizeIn, nextOf}
 
 -- two bytes, and eight
 pub short-read : (p : List ℕ) (a b : ℕ) → length p ≡ 2 → a ≡ getD p 0 0 → b ≡ getD p 1 0 → a + 256 * b ≡ numberFrom p

@@ -8,8 +8,8 @@ use Rattle.checks.specs.Numbers.{truncated, invalid}
 use Rattle.checks.specs.declared.Verdict.{Verdict}
 use Rattle.checks.specs.declared.Verdict.the-variants.{Fine, Refused}
 use Rattle.words64.specs.Words64.{numberFrom, digits}
-use Rattle.receiver.specs.declared.trace.Next.{Next}
-use Rattle.receiver.specs.declared.trace.Next.the-variants as next-is
+use Rattle.trace.specs.declared.Next.{Next}
+use Rattle.trace.specs.declared.Next.the-variants as next-is
 
 -- a picture of so many bytes begins, or a block comes: its number and its bytes
 pub data Message : Type 0 where

@@ -3,7 +3,7 @@ ghost use mathlib.Core.Path.{_≡_};
 ghost use Prim.Native.Nat.{_<_};
 ghost use lib.ListN.{length, drop};
 ghost use Rattle.words64.specs.Words64.{numberFrom};
-ghost use Rattle.receiver.specs.Trace.{startIn, blockIn, nextOf};
+ghost use Rattle.trace.specs.Trace.{startIn, blockIn, nextOf};
 
 // What a trace begins with: nothing, a message that is cut, a byte that begins no message, a start with its length, or a block with
 // its number and its size.
