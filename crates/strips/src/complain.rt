@@ -1,14 +1,6 @@
-// What went wrong, one line each on standard error, with the name of the file.
-use libc::STDERR_FILENO;
-
-fn text(words: &[u8]) {
-    io::write_all(STDERR_FILENO, words);
-}
-
-fn number(before: &[u8], n: usize) {
-    text(before);
-    io::print_decimal(STDERR_FILENO, n as u64);
-}
+// What went wrong, one line each on standard error, as far as it is this program's own.
+use report::complain::number;
+use report::complain::text;
 
 pub fn usage() {
     text(b"usage: strips FILE [MAP [OUT]]\n  FILE  a LogLuv TIFF picture\n");
@@ -26,31 +18,6 @@ pub fn too_many(given: usize) {
         given,
     );
     text(b"\n");
-}
-
-pub fn long_name(i: usize) {
-    number(b"strips: argument ", i);
-    text(b" is longer than the name of a file can be\n");
-}
-
-// Nothing is read where it is not clear what is to be written.
-pub fn ending(name: &[u8]) {
-    text(b"strips: cannot tell what to write: '");
-    text(name);
-    text(b"' ends in neither .png nor .pgm\n");
-}
-
-pub fn no_room(name: &[u8]) {
-    text(b"strips: cannot write '");
-    text(name);
-    text(b"': there is no room here for so large a PNG file\n");
-}
-
-// A call on a file failed, and the system knows why.
-pub fn failed(what: &[u8], name: &[u8]) {
-    text(what);
-    text(name);
-    os::fail(b"'");
 }
 
 pub fn too_large(name: &[u8], most: usize) {

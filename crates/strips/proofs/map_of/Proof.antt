@@ -1,6 +1,6 @@
 -- Without a map the count is the lesser of the blocks and the buffer's length; with one it is that of the load.
-use borrow.Author.Needs.{needs}
 use Rattle.io.proofs.Counting.{counts}
+use borrow.Author.Needs.{needs}
 use Rattle.strips.proofs.map_of.Statement.{statement}
 use Rattle.strips.proofs.map_of.Tie as tie
 
@@ -12,6 +12,9 @@ returns c = counts _ _ (search needs)
 
 slice-aggregate-load : tie.Need-slice-aggregate-load
 slice-aggregate-load c = search needs
+
+slice-aggregate-load-2 : tie.Need-slice-aggregate-load-2
+slice-aggregate-load-2 c = search needs
 
 load-requires : tie.Need-load-requires
 load-requires c κs = search needs
@@ -53,6 +56,7 @@ map-of-spec =
     least-requires
     returns
     slice-aggregate-load
+    slice-aggregate-load-2
     load-requires
     same-length
     returns-2

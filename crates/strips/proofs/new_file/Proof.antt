@@ -1,6 +1,6 @@
 -- The array has the length that it says.
 use mathlib.Core.Path.{refl}
-use Rattle.strips.proofs.Lengths.{long}
+use Rattle.report.proofs.Lengths.{long}
 use Rattle.strips.proofs.new_file.Statement.{statement}
 use Rattle.strips.proofs.new_file.Tie as tie
 

@@ -1,0 +1,2 @@
+pub mod ColourFile
+pub mod Lengths

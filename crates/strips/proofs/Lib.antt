@@ -1,4 +1,0 @@
-pub mod ColourFile
-pub mod Decimals
-pub mod GreyFile
-pub mod Lengths
