@@ -1,25 +1,12 @@
 #!/bin/sh
 # Has another reader, netpbm's pngtopnm, read the PNG files that bin/strips writes, and compares every pixel with what the models of the
 # rules say. The last line is 'N passed, M failed'; the exit status is 1 where something failed.
-root=$(cd "$(dirname "$0")/.." && pwd -P)
-strips=$root/bin/strips
+program=strips
+. "$(dirname "$0")/programs.sh"
 model=$root/tests/png.py
-room=$(mktemp -d)
-trap 'rm -rf "$room"' EXIT
-passed=0
-failed=0
-
-note() { # whether it passed, what was tried
-    if [ "$1" -eq 0 ]; then
-        passed=$((passed + 1))
-    else
-        failed=$((failed + 1))
-        echo "FAILED: $2"
-    fi
-}
 
 same() { # what is tried, picture, map
-    if ! "$strips" "$2" "$3" "$room/a.png" >"$room/report" || ! grep -q '^  written   .*: PNG' "$room/report"; then
+    if ! "$run" "$2" "$3" "$room/a.png" >"$room/report" || ! grep -q '^  written   .*: PNG' "$room/report"; then
         note 1 "$1: nothing was written"
         return
     fi
@@ -30,19 +17,18 @@ same() { # what is tried, picture, map
     echo "$1: $said"
 }
 
-ones() { head -c "$1" /dev/zero | tr '\0' '\1'; }
 blocks_of() { echo $((($(wc -c <"$1") + 511) / 512)); }
 
 # All blocks came, and all but one, for each or for some at a distance; a block whose loss is refused, as it holds the directory, says
 # nothing of the PNG.
 each_block() { # what is tried, picture, distance
     blocks=$(blocks_of "$2")
-    ones "$blocks" >"$room/map"
+    bytes "$blocks" 1 >"$room/map"
     same "$1, whole" "$2" "$room/map"
     lost=0
     while [ "$lost" -lt "$blocks" ]; do
-        { ones "$lost" && printf '\0' && ones $((blocks - lost - 1)); } >"$room/map"
-        if "$strips" "$2" "$room/map" | grep -q '^  pixels'; then
+        { bytes "$lost" 1 && printf '\0' && bytes $((blocks - lost - 1)) 1; } >"$room/map"
+        if "$run" "$2" "$room/map" | grep -q '^  pixels'; then
             same "$1, without block $lost" "$2" "$room/map"
         fi
         lost=$((lost + $3))
@@ -63,5 +49,4 @@ each_block 'tiles with negative values' "$libtiff/t05_50x20_t32x16_neg_l.tif" 1
 each_block 'a short last strip' "$libtiff/s13_40x30_rps7_neg_b.tif" 1
 each_block 'one pixel' "$libtiff/s01_1x1_l.tif" 1
 
-echo "$passed passed, $failed failed"
-[ "$failed" -eq 0 ]
+finish

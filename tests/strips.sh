@@ -1,77 +1,8 @@
 #!/bin/sh
 # Runs bin/strips on whole, patchy and broken pictures and compares what it prints, errors included, and what it writes. The last line
 # is 'N passed, M failed'; the exit status is 1 where something failed.
-root=$(cd "$(dirname "$0")/.." && pwd -P)
-strips=$root/bin/strips
-room=$(cd "$(mktemp -d)" && pwd -P)
-trap 'rm -rf "$room"' EXIT
-cd "$room" || exit 2
-passed=0
-failed=0
-
-note() { # whether it passed, what was tried
-    if [ "$1" -eq 0 ]; then
-        passed=$((passed + 1))
-    else
-        failed=$((failed + 1))
-        echo "FAILED: $2"
-    fi
-}
-
-prints() { # what is tried, the arguments; standard input has what must be printed
-    what=$1
-    shift
-    cat >want
-    "$strips" "$@" >got 2>&1
-    cmp -s want got
-    same=$?
-    note "$same" "$what"
-    [ "$same" -eq 0 ] || diff want got
-}
-
-# ---- pictures of the test's own, little-endian
-byte() { printf "\\$(printf %03o "$1")"; }
-short() { byte $(($1 % 256)) && byte $(($1 / 256)); }
-long() { short $(($1 % 65536)) && short $(($1 / 65536)); }
-entry() { short "$1" && short "$2" && long "$3" && long "$4"; }
-bytes() { head -c "$1" /dev/zero | tr '\0' "\\$(printf %03o "$2")"; }
-
-# One pixel wide, 130 strips of one row: the directory at 8, then two arrays of three, the offsets at 146, the counts at 406, and
-# from 666 on the packets of two rows, of which the second has a negative L.
-tall() {
-    printf 'II*\000' && long 8
-    short 10
-    entry 256 3 1 1
-    entry 257 3 1 130
-    entry 258 3 3 134
-    entry 259 3 1 34676
-    entry 262 3 1 32845
-    entry 273 3 130 146
-    entry 277 3 1 3
-    entry 278 3 1 1
-    entry 279 3 130 406
-    entry 339 3 3 140
-    long 0
-    short 16 && short 16 && short 16
-    short 2 && short 2 && short 2
-    k=0
-    while [ "$k" -lt 130 ]; do
-        case $k in
-        75) short 9999 ;;
-        76) short 0 ;;
-        77) short 674 ;;
-        *) short 666 ;;
-        esac
-        k=$((k + 1))
-    done
-    k=0
-    while [ "$k" -lt 130 ]; do
-        short 8
-        k=$((k + 1))
-    done
-    printf '\001\100\001\200\001\120\001\140'
-    printf '\001\300\001\200\001\120\001\140'
-}
+program=strips
+. "$(dirname "$0")/programs.sh"
 
 cp "$root/crates/strips/data/camera.tif" "$root/crates/strips/data/one-block-lost.map" .
 tall >tall.tif
@@ -212,7 +143,7 @@ tail -c +158736 grey.pgm | head -c 5120 >lost-strip
 bytes 5120 0 | cmp -s - lost-strip
 note $? 'the lost strip is black'
 bytes 85 1 >all-came.map
-"$strips" camera.tif all-came.map whole.pgm >got 2>&1
+"$run" camera.tif all-came.map whole.pgm >got 2>&1
 others() { head -c 158735 "$1" && tail -c +163856 "$1"; }
 others whole.pgm >want
 others grey.pgm | cmp -s - want
@@ -246,7 +177,7 @@ tall.tif
 END
 { printf 'P5\n1 130\n255\n' && bytes 75 129 && bytes 3 0 && bytes 52 129; } | cmp -s - tall.pgm
 note $? 'each grey value, a negative one among them'
-"$strips" tall.tif both-came.map tall.png >got 2>&1
+"$run" tall.tif both-came.map tall.png >got 2>&1
 echo '  written   tall.png: PNG, 1 x 130, 2408 bytes, CRC-32 3d0f158a' >want
 tail -n 1 got | cmp -s - want
 note $? 'its PNG'
@@ -288,11 +219,6 @@ for kind in png pgm; do
 done
 
 # ---- the launcher
-mkdir bin
-cp "$strips" bin/strips
-strips=$room/bin/strips
-echo "strips: the program is not built yet; 'make strips' in $room proves and builds it" >unbuilt
-prints 'a program that is not built' camera.tif <unbuilt
+launched
 
-echo "$passed passed, $failed failed"
-[ "$failed" -eq 0 ]
+finish

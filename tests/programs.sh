@@ -1,0 +1,92 @@
+# What the tests of the programs share; they read this file with `.`, after program=NAME. It makes a folder of its own the current one.
+root=$(cd "$(dirname "$0")/.." && pwd -P)
+run=$root/bin/$program
+room=$(cd "$(mktemp -d)" && pwd -P)
+trap 'rm -rf "$room"' EXIT
+cd "$room" || exit 2
+passed=0
+failed=0
+
+note() { # whether it passed, what was tried
+    if [ "$1" -eq 0 ]; then
+        passed=$((passed + 1))
+    else
+        failed=$((failed + 1))
+        echo "FAILED: $2"
+    fi
+}
+
+prints() { # what is tried, the arguments; standard input has what must be printed
+    what=$1
+    shift
+    cat >want
+    "$run" "$@" >got 2>&1
+    cmp -s want got
+    same=$?
+    note "$same" "$what"
+    [ "$same" -eq 0 ] || diff want got
+}
+
+# The last line is 'N passed, M failed'; the exit status is 1 where something failed.
+finish() {
+    echo "$passed passed, $failed failed"
+    [ "$failed" -eq 0 ]
+}
+
+# The launcher by way of a link, and a copy of it in a folder without programs.
+launched() {
+    ln -s "$run" link
+    ./link 2>&1 | head -n 1 | grep -q "^usage: $program "
+    note $? 'a link of another name'
+    mkdir bin
+    cp "$run" "bin/$program"
+    run=$room/bin/$program
+    echo "$program: the program is not built yet; 'make $program' in $room proves and builds it" >unbuilt
+    prints 'a program that is not built' <unbuilt
+}
+
+# ---- numbers as bytes, little-endian
+byte() { printf "\\$(printf %03o "$1")"; }
+short() { byte $(($1 % 256)) && byte $(($1 / 256)); }
+long() { short $(($1 % 65536)) && short $(($1 / 65536)); }
+bytes() { head -c "$1" /dev/zero | tr '\0' "\\$(printf %03o "$2")"; }
+
+# ---- a picture of the tests' own
+entry() { short "$1" && short "$2" && long "$3" && long "$4"; }
+
+# One pixel wide, 130 strips of one row: the directory at 8, then two arrays of three, the offsets at 146, the counts at 406, and
+# from 666 on the packets of two rows, of which the second has a negative L.
+tall() {
+    printf 'II*\000' && long 8
+    short 10
+    entry 256 3 1 1
+    entry 257 3 1 130
+    entry 258 3 3 134
+    entry 259 3 1 34676
+    entry 262 3 1 32845
+    entry 273 3 130 146
+    entry 277 3 1 3
+    entry 278 3 1 1
+    entry 279 3 130 406
+    entry 339 3 3 140
+    long 0
+    short 16 && short 16 && short 16
+    short 2 && short 2 && short 2
+    k=0
+    while [ "$k" -lt 130 ]; do
+        case $k in
+        75) short 9999 ;;
+        76) short 0 ;;
+        77) short 674 ;;
+        *) short 666 ;;
+        esac
+        k=$((k + 1))
+    done
+    k=0
+    while [ "$k" -lt 130 ]; do
+        short 8
+        k=$((k + 1))
+    done
+    printf '\001\100\001\200\001\120\001\140'
+    printf '\001\300\001\200\001\120\001\140'
+}
