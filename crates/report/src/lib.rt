@@ -58,15 +58,20 @@ fn limits() -> Limits {
     }
 }
 
+// That nothing is written, where something was to be.
+pub fn put_unwritten(out: &[u8], kind: Kind) {
+    match kind {
+        Kind::Nothing => {}
+        _ => lines::put_unwritten(out),
+    }
+}
+
 // The blocks, the refusal and the charge. There is nothing to write then.
 fn report_refusal(out: &[u8], kind: Kind, map: &[u8], number: u8, left: usize) {
     lines::put_blocks(map);
     refusal::put(number, limits());
     lines::put_charge(left);
-    match kind {
-        Kind::Nothing => {}
-        _ => lines::put_unwritten(out),
-    }
+    put_unwritten(out, kind);
 }
 
 // The sizes, the blocks, the quality of each segment and the charge.
