@@ -1,5 +1,5 @@
 # What people run here. `make` alone says what there is.
-.PHONY: help demo strips strips-test test more vectors vectors-write format lib install uninstall install-test
+.PHONY: help demo demo-trace strips strips-test replay replay-test test more vectors vectors-write format lib install uninstall install-test
 .PHONY: png readme face rust compare faults bench worst
 # Targets share the library and target/; rt and cargo use all processors by themselves.
 .NOTPARALLEL:
@@ -8,7 +8,10 @@ help:
 	@echo "make demo           the camera's picture without one block: what came of each strip, and pictures in target/demo.png and target/demo.pgm"
 	@echo 'make strips         prove and build the program bin/strips, which reports what came of a picture'
 	@echo 'make strips-test    run it on whole, patchy and broken pictures, and compare what it prints'
-	@echo 'make png            have another reader read the PNG files that it writes (needs python3, netpbm)'
+	@echo 'make demo-trace     a recorded trace of the bus: how each message was answered, and what came of the picture'
+	@echo 'make replay         prove and build the program bin/replay, which replays a trace and shows the picture that came'
+	@echo 'make replay-test    run it on whole, cut, long and broken traces, and compare what it prints'
+	@echo 'make png            have another reader read the PNG files that bin/strips writes (needs python3, netpbm)'
 	@echo 'make test           prove every crate from nothing, try every must-fail edit, run every program: the gate'
 	@echo 'make more           what the gate does not run: every other test of this list, without the two measurements at its end (some minutes)'
 	@echo 'make vectors        compute the expected answers of the vectors anew, compare, and try mistakes against them (needs python3)'
@@ -42,6 +45,19 @@ demo: strips
 strips-test: strips
 	tests/strips.sh
 
+replay:
+	rt check replay
+
+# In a folder of its own, so that the names are those of the expected report.
+demo-trace: replay
+	@mkdir -p target/demo-trace
+	@cp crates/replay/data/demo.trace target/demo-trace
+	@cd target/demo-trace && ../../bin/replay demo.trace picture.png | tee report.txt
+	@cmp -s target/demo-trace/report.txt crates/replay/stdout || { echo 'this is not what crates/replay/stdout has'; exit 1; }
+
+replay-test: replay strips
+	tests/replay.sh
+
 png:
 	@tools/need netpbm python3
 	@$(MAKE) --no-print-directory strips
@@ -51,18 +67,20 @@ test:
 	@.ci/run
 
 # The gate needs the kit alone; these need more. Not here are bench and worst, which measure.
-more: vectors lib demo strips-test png readme face install-test rust compare faults
+more: vectors lib demo strips-test demo-trace replay-test png readme face install-test rust compare faults
 
 vectors:
 	@tools/need python3
 	python3 tests/vectors.py
 	python3 tests/vectors.py --wrong
 	python3 tests/incident.py
+	python3 tests/trace.py
 
 vectors-write:
 	@tools/need python3
 	python3 tests/vectors.py --write
 	python3 tests/incident.py --write
+	python3 tests/trace.py --write
 
 format:
 	rt fmt
