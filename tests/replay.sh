@@ -27,7 +27,7 @@ shown() { # file, its map, perhaps a picture to write: as strips shows it
     "$strips" "$@" | tail -n +2
 }
 whole='ends after a whole message'
-cut() { echo "ends within message $1, which was not taken (1)"; }
+within() { echo "ends within message $1, which was not taken (1)"; }
 foreign() { echo "stopped after $1 bytes, as a message begins with 1 or 2 and not with $2 (2)"; }
 
 # Two blocks, the second of 170 bytes; and the same filled up to two whole ones.
@@ -100,7 +100,7 @@ while [ "$at" -le "$size" ]; do
     taken=$(((at >= 9) + (at >= 532) + (at >= 713)))
     case $at in
     9 | 532 | 713) how=$whole ;;
-    *) how=$(cut $((taken + 1))) ;;
+    *) how=$(within $((taken + 1))) ;;
     esac
     { told cut.trace "$taken" 0 0 0 "$how" && cat "shown-$taken"; } >said
     prints "cut after $at bytes" cut.trace <said
@@ -173,7 +173,7 @@ prints 'blocks of 65535 bytes, one of them across the end of the window' long.tr
 { told foreign.trace 3 0 0 3 "$(foreign 197351 9)" && cat shown-3; } >said
 prints 'a foreign byte behind the first window' foreign.trace <said
 head -c 197350 long.trace >cut.trace
-{ told cut.trace 2 0 0 3 "$(cut 6)" && cat shown-2; } >said
+{ told cut.trace 2 0 0 3 "$(within 6)" && cat shown-2; } >said
 prints 'a message that is cut behind the first window' cut.trace <said
 # The window ends within the head of the first block, and just before and behind it.
 before=0

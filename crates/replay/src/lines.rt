@@ -58,7 +58,6 @@ pub fn put_end(end: End, messages: usize, bytes: usize) {
     match end {
         End::At(stop) => put_stop(stop, messages, bytes),
         End::Farther => say::text(b"goes on farther than its bytes can be counted\n"),
-        End::Failed => say::text(b"could not be read to its end\n"),
     }
 }
 

@@ -4,7 +4,6 @@ use receiver::Receiver;
 use report::arguments;
 use report::arguments::Kind;
 use report::say;
-use stream::End;
 use stream::Replayed;
 
 // What went wrong.
@@ -29,6 +28,7 @@ fn show(out: &[u8], kind: Kind, receiver: Receiver, file: &[u8], map: &[u8]) {
         report::put_unwritten(out, kind);
         return;
     }
+    // The buffers hold all of it, else its start was refused.
     let n = records::least(receiver.length, file.len());
     let m = records::least(seen::blocks_in(n), map.len());
     lines::put_picture(n, m);
@@ -54,10 +54,10 @@ fn run(name: &[u8], out: &[u8], kind: Kind) {
     let mut file = report::new_room();
     let mut map = io::buffer();
     let replayed = stream::replay(fd, &mut file, &mut map);
-    let end = replayed.end;
-    match end {
-        End::Failed => complain::unread(name),
-        _ => tell(name, out, kind, replayed, &file, &map),
+    if replayed.good {
+        tell(name, out, kind, replayed, &file, &map);
+    } else {
+        complain::unread(name);
     }
     libc::close(fd);
 }

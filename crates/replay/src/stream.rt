@@ -13,15 +13,15 @@ ghost use Rattle.lists.specs.Lists.{overlay};
 // Longer than the longest message, which has 11 + 65535 bytes.
 const WINDOW: usize = 131072;
 
-// Where the replay ended: where no further message could be taken, farther on than bytes can be counted, or where a read failed.
+// Where the trace ends: where no further message can be taken, or farther on than it was taken.
 pub enum End {
     At(Stop),
     Farther,
-    Failed,
 }
 
-// The same, how many bytes the messages have that were taken, and what came of them.
+// Whether no read failed; where the trace ends, how many bytes the messages have that were taken, and what came of them.
 pub struct Replayed {
+    pub good: bool,
     pub end: End,
     pub bytes: usize,
     pub progress: Progress,
@@ -70,7 +70,8 @@ fn replay_in(window: &mut [u8], fd: i32, file: &mut [u8], map: &mut [u8]) -> Rep
         let n = loaded.size;
         if !loaded.good {
             return Replayed {
-                end: End::Failed,
+                good: false,
+                end: End::Farther,
                 bytes: bytes,
                 progress: progress,
             };
@@ -83,6 +84,7 @@ fn replay_in(window: &mut [u8], fd: i32, file: &mut [u8], map: &mut [u8]) -> Rep
         if size == 0 {
             let stop = taken.stop;
             return Replayed {
+                good: true,
                 end: End::At(stop),
                 bytes: bytes,
                 progress: progress,
@@ -92,6 +94,7 @@ fn replay_in(window: &mut [u8], fd: i32, file: &mut [u8], map: &mut [u8]) -> Rep
         kept = n - size;
     }
     Replayed {
+        good: true,
         end: End::Farther,
         bytes: bytes,
         progress: progress,
