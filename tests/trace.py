@@ -6,89 +6,43 @@ usage: trace.py [--write]
 Without a word it computes crates/replay/data/demo.trace and crates/replay/stdout, the same bytes at every run, compares them with what
 is there, writes nothing, and exits with 1 where something differs. --write writes them.
 
-The trace sends the camera's picture over a bus on which much goes wrong. The answers are those of a receiver in Python, which
-says the rules of the receiver a second time; the picture's report and its PNG file are those of the models of patchy.py and png.py. The
-script stops where the receiver is not left with the picture's own bytes in each block that came, and where another block is missing
-than the two that the trace loses for good.
+The trace sends the camera's picture over a bus on which much goes wrong. The answers are those of the model of receiver.py; the
+picture's report and its PNG file are those of the models of patchy.py and png.py. The script stops where the receiver is not left with
+the picture's own bytes in each block that came, and where another block is missing than the two that the trace loses for good.
 """
-import struct
 import sys
 
 sys.dont_write_bytecode = True  # no folder of compiled modules beside the scripts
 from common import TOP, hold_or_write
 from libtiff import CAMERA, file_of
 from png import read, written
+from receiver import Reception, begin, blocks_of, listed, sent
 
-MOST, MAP = 2097152, 4096   # the program's buffers
+MOST = 2097152              # the program's file buffer; the model's is shorter, and nothing in this trace tells the two apart
+FILE, MAP = 65536, 4096
 LOST = {44: 31, 21: 17}     # blocks that never come as they should, and the one strip that has bytes of each
-
-def start(length):
-    return struct.pack('<BQ', 1, length)
-
-def block(number, content):
-    return struct.pack('<BQH', 2, number, len(content)) + content
-
-class Receiver:
-    """A file buffer and a map, and what messages do to them."""
-    def __init__(self):
-        self.file, self.map, self.length, self.started = bytearray(MOST), bytearray(MAP), 0, False
-
-    def start(self, length):
-        if length > MOST or blocks_of(length) > MAP:
-            return 10
-        self.map, self.length, self.started = bytearray(MAP), length, True
-        return 0
-
-    def block(self, number, content):
-        if not self.started or number >= blocks_of(self.length):
-            return 11
-        at = 512 * number
-        if len(content) != min(512, self.length - at):
-            return 12
-        self.file[at:at + len(content)] = content
-        self.map[number] = 1
-        return 0
-
-def blocks_of(length):
-    return -(-length // 512)
-
-def replay(receiver, trace):
-    """The answers to the messages of a trace, all of them whole."""
-    answers, at = [], 0
-    while at < len(trace):
-        kind, number = struct.unpack_from('<BQ', trace, at)
-        at += 9
-        if kind == 1:
-            answers.append(receiver.start(number))
-        else:
-            assert kind == 2
-            size, = struct.unpack_from('<H', trace, at)
-            at += 2 + size
-            assert at <= len(trace)
-            answers.append(receiver.block(number, trace[at - size:at]))
-    return answers
 
 def demo(camera):
     """The messages of the trace, in their order."""
     blocks = [camera[at:at + 512] for at in range(0, len(camera), 512)]
     last = len(blocks) - 1
-    right = lambda *numbers: b''.join(block(k, blocks[k]) for k in numbers)
+    right = lambda *numbers: b''.join(sent(k, blocks[k]) for k in numbers)
     return b''.join((
         right(83),                                  # the end of a picture whose start was not recorded
-        start(len(camera)),
+        begin(len(camera)),
         right(*range(12)), right(13, 12),           # two change places
         right(*range(14, 21)),
-        block(21, blocks[21][:500]),                # cut on its way, and not sent again
+        sent(21, blocks[21][:500]),                 # cut on its way, and not sent again
         right(*range(22, 30)),
-        block(30, bytes(255 - b for b in blocks[30])),  # other bytes; the right ones come later
+        sent(30, bytes(255 - b for b in blocks[30])),  # other bytes; the right ones come later
         right(*range(31, 44)),                      # 44 is lost, and not sent again
-        start(MOST + 1),                            # another picture, too long to be taken; this one goes on
+        begin(MOST + 1),                            # another picture, too long to be taken; this one goes on
         right(*range(45, 60)),                      # 60 and 61 are lost at first
         right(62, 62, 63, 63),                      # each sent twice
-        block(last + 1, blocks[0]),                 # just outside the picture
-        block(TOP, blocks[0]),                      # far outside
+        sent(last + 1, blocks[0]),                  # just outside the picture
+        sent(TOP, blocks[0]),                       # far outside
         right(*range(64, last)),
-        block(last, blocks[last] + bytes(512 - len(blocks[last]))),     # the last one filled up to 512 bytes
+        sent(last, blocks[last] + bytes(512 - len(blocks[last]))),  # the last one filled up to 512 bytes
         right(last),
         right(61, 60, 30)))                         # what was asked for again, out of order
 
@@ -101,11 +55,15 @@ def column(number, meaning):
     return '%9d   %s' % (number, meaning)
 
 def made():
-    camera, receiver = file_of(CAMERA), Receiver()
+    camera, state, answers = file_of(CAMERA), Reception(False, 0, [0] * FILE, [0] * MAP), []
     trace = demo(camera)
-    answers = replay(receiver, trace)
-    length, blocks = receiver.length, blocks_of(receiver.length)
-    file, came = bytes(receiver.file[:length]), bytes(receiver.map[:blocks])
+    messages, ending = listed(trace)
+    assert ending == 0
+    for call, *words in messages:
+        answer, state = call(state, *words)
+        answers.append(answer)
+    length, blocks = state.length, blocks_of(state.length)
+    file, came = bytes(state.file[:length]), bytes(state.came[:blocks])
     assert [k for k in range(blocks) if not came[k]] == sorted(LOST)
     assert all(file[512 * k:512 * k + 512] == camera[512 * k:512 * k + 512] for k in range(blocks) if came[k]) and length == len(camera)
     f, output, quality, charged = read(file, came)

@@ -7,9 +7,9 @@ use lib.ListN.{length, take, drop, length-drop}
 use lib.Seq.{length-take-le}
 use Rattle.checks.specs.declared.Verdict.{Verdict}
 use Rattle.receiver.specs.declared.Receiver.{Receiver}
-use Rattle.receiver.specs.declared.trace.Next.{Next}
-use Rattle.receiver.specs.declared.trace.Next.the-variants.{Foreign, Start, Block}
-use Rattle.receiver.specs.Trace.{start, block, nextOf}
+use Rattle.trace.specs.declared.Next.{Next}
+use Rattle.trace.specs.declared.Next.the-variants.{Foreign, Start, Block}
+use Rattle.trace.specs.Trace.{start, block, nextOf}
 use Rattle.receiver.specs.Receiver.{lent, Answers}
 use Rattle.receiver.proofs.Replaying.{Replaying, replays, replaying-start, replaying-block}
 

@@ -2,8 +2,7 @@
 use checks::Verdict;
 use receiver::Received;
 use receiver::Receiver;
-use receiver::trace;
-use receiver::trace::Next;
+use trace::Next;
 ghost use mathlib.Core.Path.{_≡_};
 ghost use Prim.Native.Nat.{_≤_};
 ghost use lib.ListN.{length};

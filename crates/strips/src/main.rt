@@ -5,7 +5,6 @@ use report::arguments::Kind;
 use report::load;
 use report::load::Loaded;
 use report::say;
-use summary::marks;
 ghost use mathlib.Core.Path.{_≡_};
 ghost use lib.ListN.{length};
 ghost use Rattle.io.specs.Counts.{Counts};
@@ -77,7 +76,7 @@ fn run(name: &[u8], map_name: &[u8], out: &[u8], given: usize, kind: Kind) {
         return;
     }
     let mut map = new_map();
-    let delivered = map_of(map_name, given, marks::blocks_of(&file[..n]), &mut map);
+    let delivered = map_of(map_name, given, seen::blocks_in(n), &mut map);
     let m = delivered.size;
     if delivered.good {
         say::line(name);

@@ -3,15 +3,7 @@ ghost use mathlib.Core.Path.{_≡_};
 ghost use Prim.Native.Nat.{_+_, _<_, _≤_};
 ghost use lib.ListN.{length};
 ghost use Rattle.lists.specs.Lists.{lesser, tabulate};
-ghost use Rattle.seen.specs.Seen.{blocksIn};
 ghost use Rattle.summary.specs.Marks.{sameOf, tallyOf, markOf, charAt, lineLength};
-
-// How many blocks a file has.
-pub fn blocks_of(file: &[u8]) -> usize
-    ensures { λ r. ⌜ r ≡ blocksIn (length (now (file .entry))) ⌝ }
-{
-    (file.len() + 511) / 512
-}
 
 // 1 where two bytes are the same.
 fn same(a: u8, b: u8) -> usize
