@@ -15,7 +15,7 @@ use Rattle.trace.specs.Trace.{Message, start, block, traceOf}
 use Rattle.receiver.specs.Receiver.{Reception, messageChecks, answerTo, received, receivedAll}
 use Rattle.promises.specs.Since.{LastStart, Kept}
 use Rattle.receiver.proofs.Receiving.{start-accepted, refused-leaves}
-use Rattle.promises.proofs.Since.{received-append, last-start, next-accepted, kept, block-before, idle-all}
+use Rattle.promises.proofs.Since.{received-append, last-start, next-accepted, came-last, kept, block-before, idle-all}
 use Rattle.trace.proofs.Written.{nothing-written, all-written, cut-written, foreign-byte}
 use Rattle.face_receiver.specs.Reception.{receiverOf, receiverWords, lentWords, Replay}
 use Rattle.promises.specs.Bus.{Bus}
@@ -53,6 +53,7 @@ bus = record {
   start-accepted = start-accepted;
   last-start = last-start;
   block-accepted = next-accepted;
+  came-last = came-last;
   kept = kept;
   kept-at-face = kept-at-face;
   in-pieces = received-append;

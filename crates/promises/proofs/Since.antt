@@ -434,3 +434,60 @@ module _ (s : Reception) (idle : s .receiver .started ≡ false) where
   idle-all [] none = refl
   idle-all (m ∷ rest) none =
       ap (receivedAll rest) (idle-leaves m rest none) ∙ idle-all rest (λ a. none (start-later (length (s .file)) (length (s .map)) m rest a))
+
+-- where a block was accepted there are bytes that were accepted last
+module _ (size b : ℕ) where
+  abbrev Last : List Message → Type 0
+  Last messages = (bytes : List ℕ) × CameLast size messages b bytes
+
+  abbrev Never : List Message → Type 0
+  Never messages = CameSince size messages b → ⊥
+
+  last-later : (m : Message) (rest : List Message) → Last rest → Last (m ∷ rest)
+  unfolding among-later
+  last-later m rest l = (
+    l .0,
+    record { among = among-later (block b (l .0)) m rest (l .1 .among); accepted = l .1 .accepted; none-later = l .1 .none-later },
+  )
+
+  -- a first message that is no accepted block of this number adds none
+  never-first : (m : Message) (rest : List Message) → Never rest → ((bytes : List ℕ) → m ≡ block b bytes → BlockOf size b bytes → ⊥) → Never (m ∷ rest)
+  never-first m rest none other c =
+      ⊎-elim
+      (λ e. other (c .bytes) e (c .accepted))
+      (λ a. none (record { bytes = c .bytes; among = a; accepted = c .accepted }))
+      (among-first-or-later (block b (c .bytes)) m rest (c .among))
+
+  first-block : (m : Message) (rest : List Message) → Never rest → Last (m ∷ rest) ⊎ Never (m ∷ rest)
+  unfolding among-first
+  first-block (start n) rest none = inr (never-first (start n) rest none (λ bytes e w. no-block e))
+    where
+      no-block : {bytes : List ℕ} → start n ≡ block b bytes → ⊥
+      no-block e = let z : _≡_ {A = ℕ} 0 1 = cc in omega arith
+  first-block (block c bytes) rest none = by (eqb c b) refl (ltb b (blocksIn size)) refl (eqb (length bytes) (blockLength size b)) refl
+    where
+      by : (x : Bool) → eqb c b ≡ x → (y : Bool) → ltb b (blocksIn size) ≡ y → (z : Bool) → eqb (length bytes) (blockLength size b) ≡ z
+          → Last (block c bytes ∷ rest) ⊎ Never (block c bytes ∷ rest)
+      by true x true y true z =
+          let same : c ≡ b = eqb-true c b x in
+          inl (rw same (
+            bytes,
+            record {
+              among = among-first (block b bytes) rest;
+              accepted = record { in-picture = ltb-true b (blocksIn size) y; whole = eqb-true (length bytes) (blockLength size b) z };
+              none-later = none;
+            },
+          ))
+      by false x y ey z ez = inr (never-first (block c bytes) rest none (λ given e w. let q : c ≡ b = cc in eqb-false c b x q))
+      by true x false y z ez = inr (never-first (block c bytes) rest none (λ given e w. omega (arith, w .in-picture, ltb-false b (blocksIn size) y)))
+      by true x true y false z =
+          inr
+          (never-first (block c bytes) rest none
+          (λ given e w. let q : bytes ≡ given = cc in eqb-false (length bytes) (blockLength size b) z (rw q (w .whole))))
+
+  last-or-never : (messages : List Message) → Last messages ⊎ Never messages
+  last-or-never [] = inr (λ c. among-none (block b (c .bytes)) (c .among))
+  last-or-never (m ∷ rest) = ⊎-elim (λ l. inl (last-later m rest l)) (first-block m rest) (last-or-never rest)
+
+  pub came-last : (messages : List Message) → CameSince size messages b → (bytes : List ℕ) × CameLast size messages b bytes
+  came-last messages c = ⊎-elim (λ l. l) (λ never. absurd (never c)) (last-or-never messages)

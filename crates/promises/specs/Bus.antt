@@ -12,7 +12,7 @@ use Rattle.checks.specs.Exact.{RefusedAt}
 use Rattle.checks.specs.declared.Verdict.the-variants.{Fine, Refused}
 use Rattle.trace.specs.Trace.{Message, start, block, traceOf, endsWith, written, Writable, writtenAll, EachWritable, goesOnAll}
 use Rattle.receiver.specs.Receiver.{Reception, Suffice, messageChecks, answerTo, received, receivedAll}
-use Rattle.promises.specs.Since.{StartAmong, LastStart, BlockOf, Kept}
+use Rattle.promises.specs.Since.{StartAmong, LastStart, BlockOf, CameSince, CameLast, Kept}
 use Rattle.face_receiver.specs.Reception.{receiverOf, lentWords, Replay}
 
 pub record Bus : Type 0 where
@@ -38,6 +38,8 @@ pub record Bus : Type 0 where
   -- and a block is then answered with 0 exactly if it is one of that picture's, whole
   pub block-accepted : (messages : List Message) (s : Reception) (l : LastStart (length (s .file)) (length (s .map)) messages)
       → (number : ℕ) (bytes : List ℕ) → (answerTo (block number bytes) (receivedAll messages s) ≡ Fine) ↔ BlockOf (l .size) number bytes
+  -- where a block was accepted there are bytes of it that were accepted last
+  pub came-last : (size number : ℕ) (since : List Message) → CameSince size since number → (bytes : List ℕ) × CameLast size since number bytes
   -- the map has 1 exactly for the blocks accepted since the last accepted start, each holds the bytes accepted last, and every other byte of the file
   -- buffer is as it was at that start
   pub kept : (messages : List Message) (s : Reception) (l : LastStart (length (s .file)) (length (s .map)) messages)
