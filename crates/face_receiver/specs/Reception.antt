@@ -6,6 +6,7 @@ use lib.ListN.{getD}
 use lib.Dec.{eqb}
 use Rattle.lists.specs.Lists.{pick}
 use Rattle.checks.specs.Numbers.{verdictNumber}
+use Rattle.checks.specs.declared.Verdict.{Verdict}
 use Rattle.trace.specs.Trace.{Message, traceOf}
 use Rattle.receiver.specs.Receiver.{Reception, lent, answerTo, received, receivedAll}
 use Rattle.receiver.specs.declared.Receiver.{Receiver}
@@ -18,20 +19,20 @@ receiverOf words = record { started = eqb (getD words 0 0) 1; length = getD word
 abbrev pub receiverWords : Receiver → List ℕ → List ℕ
 receiverWords r old = pick (r .started) (1 ∷ r .length ∷ []) old
 
+-- what a call answers and leaves: the number of its answer, and the file buffer, the map and the words of what is then received
+pub record ReceiverCall (words : List ℕ) (answer : Verdict) (after : Reception) (number : ℕ) (file′ map′ words′ : List ℕ) : Type 0 where
+  pub number-is : number ≡ verdictNumber answer
+  pub file-is : file′ ≡ after .file
+  pub map-is : map′ ≡ after .map
+  pub words-are : words′ ≡ receiverWords (after .receiver) words
+
 module _ (file map words : List ℕ) where
   abbrev pub lentWords : Reception
   lentWords = lent (receiverOf words) file map
 
-  -- one message
-  pub record Receive (m : Message) (number : ℕ) (file′ map′ words′ : List ℕ) : Type 0 where
-    pub number-is : number ≡ verdictNumber (answerTo m lentWords)
-    pub file-is : file′ ≡ received m lentWords .file
-    pub map-is : map′ ≡ received m lentWords .map
-    pub words-are : words′ ≡ receiverWords (received m lentWords .receiver) words
+  -- a call with one message, and one with a trace
+  abbrev pub Receive : Message → ℕ → List ℕ → List ℕ → List ℕ → Type 0
+  Receive m = ReceiverCall words (answerTo m lentWords) (received m lentWords)
 
-  -- a trace
-  pub record Replay (trace : List ℕ) (number : ℕ) (file′ map′ words′ : List ℕ) : Type 0 where
-    pub number-is : number ≡ verdictNumber (traceOf trace .ending)
-    pub file-is : file′ ≡ receivedAll (traceOf trace .messages) lentWords .file
-    pub map-is : map′ ≡ receivedAll (traceOf trace .messages) lentWords .map
-    pub words-are : words′ ≡ receiverWords (receivedAll (traceOf trace .messages) lentWords .receiver) words
+  abbrev pub Replay : List ℕ → ℕ → List ℕ → List ℕ → List ℕ → Type 0
+  Replay trace = ReceiverCall words (traceOf trace .ending) (receivedAll (traceOf trace .messages) lentWords)
