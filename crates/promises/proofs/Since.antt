@@ -298,6 +298,27 @@ module _ (size file map : ℕ) (fit : Suffice size file map) where
           (λ j h. getD-take (length bytes) (drop (blockStart b) after) j 0 (rw long at h) ∙ getD-drop (blockStart b) after j 0
           ∙ last-byte none j (rw long at h))
 
+  -- from a map by which nothing came: it has the blocks that were accepted, and the file buffer their bytes
+  module _ (messages : List Message) (quiet : Quiet messages) (s : Reception) (d : During size file map s) (n : ℕ) (clear : s .map ≡ noneCame n) where
+    abbrev after : Reception
+    after = receivedAll messages s
+
+    only-came : (b : ℕ) → blockCame (after .map) b ≡ true → CameSince size messages b
+    only-came b h =
+        ⊎-elim
+        (λ c. c)
+        (λ e. absurd (true-false (sym (ap (λ (x : List ℕ). blockCame x b) clear) ∙ e) (none-came n b)))
+        (marked-all messages quiet s d b h)
+
+    pub kept-since : Kept size messages (s .file) (after .receiver) (after .file) (after .map)
+    kept-since = record {
+      picture = during-all messages quiet s d .state-is;
+      marked = λ b. (only-came b, λ c. came-marked messages quiet s d b (c .bytes) (c .among) (c .accepted));
+      unmarked = λ b none. zero-all messages quiet s d b none ∙ ap (λ (x : List ℕ). getD x b 0) clear ∙ only-zeros n b;
+      holds = λ b bytes c. last-bytes messages quiet s d b bytes (c .among) (c .accepted) (c .none-later);
+      else-kept = byte-all messages quiet s d;
+    }
+
 -- buffers stay as long as they are
 module _ (s : Reception) where
   abbrev pub SameLengths : Reception → Type 0
@@ -350,53 +371,50 @@ module _ (messages : List Message) (s : Reception) (l : LastStart (length (s .fi
       ap (λ (x : List Message). receivedAll x s) (l .splits) ∙ received-append (l .before) (start (l .size) ∷ l .since) s
       ∙ ap (receivedAll (l .since)) begins-so
 
-  abbrev ended : Reception
-  ended = receivedAll (l .since) begun
-
   -- the map and the bytes are those of the blocks accepted since
   pub kept : Kept (l .size) (l .since) (atStart .file) (receivedAll messages s .receiver) (receivedAll messages s .file) (receivedAll messages s .map)
-  kept = rw since-start (record {
-    picture = during-all (l .size) (length (s .file)) (length (s .map)) (l .suffices) (l .since) (l .none-later) begun during-begun .state-is;
-    marked = λ b. (
-      λ h. ⊎-elim (λ c. c) (λ e. absurd (true-false e (none-came (length (atStart .map)) b))) (marked-all (l .size) (length (s .file)) (length (s .map)) (l .suffices) (l .since) (l .none-later) begun during-begun b h),
-      λ c. came-marked (l .size) (length (s .file)) (length (s .map)) (l .suffices) (l .since) (l .none-later) begun during-begun b (c .bytes) (c .among) (c .accepted),
-    );
-    unmarked = λ b none. zero-all (l .size) (length (s .file)) (length (s .map)) (l .suffices) (l .since) (l .none-later) begun during-begun b none ∙ only-zeros (length (atStart .map)) b;
-    holds = λ b bytes c. last-bytes (l .size) (length (s .file)) (length (s .map)) (l .suffices) (l .since) (l .none-later) begun during-begun b bytes (c .among) (c .accepted) (c .none-later);
-    else-kept = λ i u. byte-all (l .size) (length (s .file)) (length (s .map)) (l .suffices) (l .since) (l .none-later) begun during-begun i u;
-  })
+  kept =
+      rw since-start
+      (kept-since (l .size) (length (s .file)) (length (s .map)) (l .suffices) (l .since) (l .none-later) begun during-begun (length (atStart .map)) refl)
 
   -- a block that comes next is accepted exactly if it is one of the picture's
   pub next-accepted : (b : ℕ) (bytes : List ℕ) → (answerTo (block b bytes) (receivedAll messages s) ≡ Fine) ↔ BlockOf (l .size) b bytes
-  next-accepted b bytes =
-      rw since-start (block-answered (l .size) (length (s .file)) (length (s .map)) (l .suffices) ended
-      (during-all (l .size) (length (s .file)) (length (s .map)) (l .suffices) (l .since) (l .none-later) begun during-begun) b bytes)
+  next-accepted =
+      let d = during-all (l .size) (length (s .file)) (length (s .map)) (l .suffices) (l .since) (l .none-later) begun during-begun in
+      rw since-start (block-answered (l .size) (length (s .file)) (length (s .map)) (l .suffices) (receivedAll (l .since) begun) d)
 
 -- where a start is accepted there is a last one
 module _ (file map : ℕ) where
-  first-accepted : (m : Message) (rest : List Message) → (StartAmong file map rest → ⊥) → LastStart file map (m ∷ rest) ⊎ (StartAmong file map (m ∷ rest) → ⊥)
-  first-accepted (block b bytes) rest none = inr (λ a. ⊎-elim (λ e. no-start e) (later a) (among-first-or-later _ _ rest (a .among)))
+  -- a first message that is no accepted start adds none
+  none-first : (m : Message) (rest : List Message) → (StartAmong file map rest → ⊥) → ((n : ℕ) → m ≡ start n → Suffice n file map → ⊥)
+      → StartAmong file map (m ∷ rest) → ⊥
+  none-first m rest none other a =
+      ⊎-elim
+      (λ e. other (a .size) e (a .suffices))
+      (λ x. none (record { size = a .size; among = x; suffices = a .suffices }))
+      (among-first-or-later (start (a .size)) m rest (a .among))
+
+  first-accepted : (m : Message) (rest : List Message) → (StartAmong file map rest → ⊥)
+      → LastStart file map (m ∷ rest) ⊎ (StartAmong file map (m ∷ rest) → ⊥)
+  first-accepted (block b bytes) rest none = inr (none-first (block b bytes) rest none (λ n e fit. no-start e))
     where
       no-start : {n : ℕ} → block b bytes ≡ start n → ⊥
       no-start e = let z : _≡_ {A = ℕ} 0 1 = cc in omega arith
-
-      later : (a : StartAmong file map (block b bytes ∷ rest)) → Among (start (a .size)) rest → ⊥
-      later a x = none (record { size = a .size; among = x; suffices = a .suffices })
-  first-accepted (start n) rest none = by (sufficesFor n file map) refl
+  first-accepted (start size) rest none = by (sufficesFor size file map) refl
     where
-      later : (a : StartAmong file map (start n ∷ rest)) → Among (start (a .size)) rest → ⊥
-      later a x = none (record { size = a .size; among = x; suffices = a .suffices })
-
-      by : (t : Bool) → sufficesFor n file map ≡ t → LastStart file map (start n ∷ rest) ⊎ (StartAmong file map (start n ∷ rest) → ⊥)
+      by : (t : Bool) → sufficesFor size file map ≡ t → LastStart file map (start size ∷ rest) ⊎ (StartAmong file map (start size ∷ rest) → ⊥)
       by true t = inl (record {
         before = [];
-        size = n;
+        size = size;
         since = rest;
         splits = refl;
-        suffices = suffices-exact n file map .0 t;
+        suffices = suffices-exact size file map .0 t;
         none-later = none;
       })
-      by false t = inr (λ a. ⊎-elim (λ (e : start n ≡ start (a .size)). let z : n ≡ a .size = cc in true-false (suffices-exact n file map .1 (rw z (a .suffices))) t) (later a) (among-first-or-later _ _ rest (a .among)))
+      by false t =
+          inr
+          (none-first (start size) rest none
+          (λ n e fit. let z : size ≡ n = cc in true-false (suffices-exact size file map .1 (rw z fit)) t))
 
   last-or-none : (messages : List Message) → LastStart file map messages ⊎ (StartAmong file map messages → ⊥)
   last-or-none [] = inr (λ a. among-none (start (a .size)) (a .among))

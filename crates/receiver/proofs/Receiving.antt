@@ -136,11 +136,14 @@ module _ (r : Receiver) (file map : List ℕ) where
         record { answer-is = sym a; leaves = rw (a, p .file-is, p .map-is) }
 
     pub block-has-place : v ≡ Fine → HasPlace number (length bytes) (length file) (length map)
-    block-has-place q = admitted-place r number (length bytes) (length file) (length map) (block-exact r number (length bytes) (length file) (length map) .0 (sym ev ∙ q))
+    block-has-place q =
+        let exact = block-exact r number (length bytes) (length file) (length map) in
+        admitted-place r number (length bytes) (length file) (length map) (exact .0 (sym ev ∙ q))
 
 -- the block of a trace: its bytes are the part that is lent
 pub block-part : (number size at : ℕ) (trace : List ℕ) {s s′ : Reception} {v : Verdict}
-    → Answers (block number (take (at + 11 + size - (at + 11)) (drop (at + 11) trace))) s v s′ → Answers (block number (take size (drop (at + 11) trace))) s v s′
+    → Answers (block number (take (at + 11 + size - (at + 11)) (drop (at + 11) trace))) s v s′
+    → Answers (block number (take size (drop (at + 11) trace))) s v s′
 block-part number size at trace a = rw add-sub-cancel-left at a
 
 pub ruleset starts = (start-refused, start-taken, not-true, not-false, needs)

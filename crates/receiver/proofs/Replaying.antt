@@ -104,4 +104,6 @@ module _ (trace file₀ map₀ : List ℕ) (r₀ : Receiver) (file map : List �
   pub replayed-foreign : n ≡ Foreign → Replays trace (lent r₀ file₀ map₀) (Refused invalid) (lent r file map)
   replayed-foreign e = stops Foreign (Refused invalid) e refl
 
-pub ruleset replays = (replaying-none, start-in, block-in, start-less, block-less, block-end, replaying-start, replaying-block, replayed-over, replayed-cut, replayed-foreign, needs)
+pub ruleset advances = (start-in, block-in, start-less, block-less, block-end)
+
+pub ruleset replays = (advances, replaying-none, replaying-start, replaying-block, replayed-over, replayed-cut, replayed-foreign, needs)
