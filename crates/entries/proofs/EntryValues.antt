@@ -8,7 +8,7 @@ use lib.Dec.{eqb}
 use mir.Syntax.{w64}
 use mir.Val.{Fits}
 use borrow.Author.Needs.{needs}
-use borrow.Author.Tests.{eq-eqb, ne-eqb}
+use borrow.Author.Tests.{eq-eqb, ne-eqb, le-leb, lt-leb}
 use Rattle.lists.specs.Lists.{pick}
 use Rattle.checks.specs.Numbers.{truncated, notArrived, verdictNumber}
 use Rattle.checks.specs.Checks.{verdict}
@@ -64,13 +64,13 @@ module _ (v : Seen) (big : Bool) (e : ℕ) where
 
     -- where value i lies
     module _ (i size : ℕ) (measured : size ≡ sizeOf v big e) where
-      pub place-one : count ≡ 1 → e + 8 + size * i ≡ placeOf v big e i
+      pub place-inline : size * count ≤ 4 → e + 8 + size * i ≡ placeOf v big e i
       unfolding placeOf inField
-      place-one q = simp (← read, ← measured, eq-eqb _ _ q)
+      place-inline q = simp (← read, ← measured, le-leb _ _ q)
 
-      pub place-else : (count ≡ 1 → ⊥) → (offset : ℕ) → offset ≡ four big v (e + 8) → offset + size * i ≡ placeOf v big e i
+      pub place-else : 4 < size * count → (offset : ℕ) → offset ≡ four big v (e + 8) → offset + size * i ≡ placeOf v big e i
       unfolding placeOf inField
-      place-else q offset o = simp (← read, ← measured, ← o, ne-eqb _ _ q)
+      place-else q offset o = simp (← read, ← measured, ← o, lt-leb _ _ q)
 
   -- one value, by the size of its type
   size-word : (p : ℕ) (b : Bool) → pick b (two big v p) (four big v p) ≡ pick (eqb (pick b 2 4) 2) (two big v p) (four big v p)
@@ -198,4 +198,4 @@ pub ruleset entries = (
   needs,
 )
 
-pub ruleset places = (field-there, place-one, place-else, value-outside, value-missing, value-there, value-number, needs)
+pub ruleset places = (field-there, place-inline, place-else, value-outside, value-missing, value-there, value-number, needs)

@@ -1,7 +1,7 @@
--- Values of an entry: a single one stands at the front of the entry's field, two or more at the place that the field holds.
+-- Values of an entry: those that take four bytes or fewer together stand in the entry's field, others at the place that the field holds.
 use Prim.Native.Nat.{ℕ, _+_, _*_}
 use mathlib.Core.Bool.{Bool, _&&_, _||_}
-use lib.Dec.{eqb}
+use lib.Dec.{leb, eqb}
 use Rattle.lists.specs.Lists.{pick}
 use Rattle.checks.specs.Numbers.{truncated, notArrived}
 use Rattle.seen.specs.Seen.{Seen, two, four, reachOf}
@@ -36,7 +36,7 @@ module _ (v : Seen) (big : Bool) (e : ℕ) where
 
   -- whether the values stand in the entry itself (rules 2.12 and 2.13)
   unfoldable pub inField : Bool
-  inField = eqb countAt 1
+  inField = leb (sizeOf * countAt) 4
 
   -- where value i lies (rules 2.12 and 2.13)
   unfoldable pub placeOf : ℕ → ℕ

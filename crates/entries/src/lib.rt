@@ -73,14 +73,14 @@ pub fn scalar(file: &[u8], map: &[u8], big: bool, entry: usize) -> usize
     word_at(file, map, big, entry, entry + 8)
 }
 
-// Where value i lies: a single one in the entry's field, others from the offset there.
+// Where value i lies: all that fit there in the entry's field, others from the offset there.
 fn place_of(file: &[u8], map: &[u8], big: bool, entry: usize, i: usize) -> usize
     requires { ⌜ There (seen (now file) (now map)) entry 12 × (i < countAt (seen (now file) (now map)) big entry) ⌝ }
     ensures { λ r. ⌜ r ≡ placeOf (seen (now (file .entry)) (now (map .entry))) big entry i ⌝ }
 {
     let size = size_of(file, map, big, entry);
     let count = count_of(file, map, big, entry);
-    if count == 1 {
+    if size * count <= 4 {
         return entry + 8 + size * i;
     }
     words::word4(file, map, big, entry + 8) + size * i

@@ -1,4 +1,4 @@
--- A count of 1 starts at the field, any other at the offset there; the sum fits, as a slice has fewer than 2 ^ 63 bytes.
+-- Values that fit into the field start there, all others at the offset that it holds; places fit, as a slice has fewer than 2 ^ 63 bytes.
 use Rattle.entries.proofs.EntryValues.{places, scaled-fits, placed-fits}
 use native.Mathlib.Omega.{arith}
 use Rattle.entries.proofs.place_of.Statement.{statement}
@@ -9,6 +9,9 @@ size-of-requires c κs = search places
 
 count-of-requires : tie.Need-count-of-requires
 count-of-requires c κs = search places
+
+mul-if1 : tie.Need-mul-if1
+mul-if1 c = scaled-fits _ _ (omega arith) (omega arith)
 
 add-result : tie.Need-add-result
 add-result c = search places
@@ -43,6 +46,7 @@ place-of-spec =
     (tie.spec
     size-of-requires
     count-of-requires
+    mul-if1
     add-result
     mul-result
     add-result-2
