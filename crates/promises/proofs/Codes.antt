@@ -108,18 +108,20 @@ module _ (v : Seen) (f : Format) (k : ℕ) where
       (Iff·trans (Iff·and (fine (placeChecks v f k)) (fine (storedChecks v f k))) (good-fine v f k))
 
   -- 2: of its offset, its count and its stored bytes, the first that can't be read lies in the file but did not come
-  pub code-missing : (codeOf v f k ≡ 2) ↔ RefusedAt (placeChecks v f k) 0 notArrived 0
+  pub missing-told : (codeOf v f k ≡ 2) ↔ (verdict (placeChecks v f k) ≡ verdict-is.Refused notArrived)
   unfolding qualityIs
-  code-missing =
-      Iff·trans (is-missing (offsetOf v f k) (countOf v f k) (verdict (placeChecks v f k)) (verdict (storedChecks v f k)) not-outside)
-      (refused-free (placeChecks v f k) notArrived place-free)
+  missing-told = is-missing (offsetOf v f k) (countOf v f k) (verdict (placeChecks v f k)) (verdict (storedChecks v f k)) not-outside
+
+  pub code-missing : (codeOf v f k ≡ 2) ↔ RefusedAt (placeChecks v f k) 0 notArrived 0
+  code-missing = Iff·trans missing-told (refused-free (placeChecks v f k) notArrived place-free)
 
   -- 3: the first of these that can't be read lies outside the file
-  pub code-outside : (codeOf v f k ≡ 3) ↔ RefusedAt (placeChecks v f k) 0 truncated 0
+  pub outside-told : (codeOf v f k ≡ 3) ↔ (verdict (placeChecks v f k) ≡ verdict-is.Refused truncated)
   unfolding qualityIs
-  code-outside =
-      Iff·trans (is-outside (offsetOf v f k) (countOf v f k) (verdict (placeChecks v f k)) (verdict (storedChecks v f k)))
-      (refused-free (placeChecks v f k) truncated place-free)
+  outside-told = is-outside (offsetOf v f k) (countOf v f k) (verdict (placeChecks v f k)) (verdict (storedChecks v f k))
+
+  pub code-outside : (codeOf v f k ≡ 3) ↔ RefusedAt (placeChecks v f k) 0 truncated 0
+  code-outside = Iff·trans outside-told (refused-free (placeChecks v f k) truncated place-free)
 
   -- 4: all three can be read, and the packets are not accepted
   pub code-rejected : (codeOf v f k ≡ 4) ↔ (Holds (placeChecks v f k) × (Holds (storedChecks v f k) → ⊥))

@@ -14,6 +14,7 @@ pub mod Unseen
 pub mod Own
 pub mod Codes
 pub mod Marks
+pub mod Inline
 pub mod Whole
 pub mod Lending
 pub mod Witness

@@ -4,6 +4,7 @@ pub mod Upstream
 pub mod Words
 pub mod StrictCall
 pub mod Patchy
+pub mod Inline
 pub mod Witness
 pub mod Demands
 pub mod Since

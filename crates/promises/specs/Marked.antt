@@ -1,21 +1,26 @@
--- The marked cases (rules 10.1 to 10.12) as one list: what the definitions give, beside what the rule says.
-use Prim.Native.Nat.{ℕ, _*_}
-use mathlib.Core.Bool.{true, false}
+-- The marked cases (rules 10.1 to 10.13) as one list: what the definitions give, beside what the rule says.
+use Prim.Native.Nat.{ℕ, _*_, _/_, _%_}
+use mathlib.Core.Bool.{Bool, true, false}
 use mathlib.Core.List.{List, [], _∷_, _++_}
 use lib.ListN.{length, take, drop, replicate}
-use Rattle.lists.specs.Lists.{tabulate}
+use Rattle.lists.specs.Lists.{pick, tabulate}
 use Rattle.checks.specs.Numbers.{verdictNumber}
 use Rattle.checks.specs.Checks.{verdict}
-use Rattle.seen.specs.Seen.{seen}
-use Rattle.tags.specs.Slots.{rowsPerStrip}
+use Rattle.seen.specs.Seen.{Seen, seen}
+use Rattle.tags.specs.Slots.{stripOffsets, rowsPerStrip}
 use Rattle.tags.specs.Tags.{none}
 use Rattle.geometry.specs.Geometry.{rowsOf, byteSegment, byteLocal}
-use Rattle.profile.specs.Profile.{slotNumber, shapeOf, acrossOf, segmentsOf}
+use Rattle.profile.specs.Profile.{slotNumber, shapeOf, acrossOf, segmentsOf, formatWith}
 use Rattle.profile.specs.declared.Numbers.{Numbers}
 use Rattle.profile.specs.declared.Shape.{Shape}
 use Rattle.packets.specs.Packets.{lenOf, rangeChecks, expand}
 use Rattle.pixel.specs.Luv.{uv, pixels}
 use Rattle.geometry.specs.Costs.{fee}
+use Rattle.picture.specs.declared.Format.{Format}
+use Rattle.picture.specs.Picture.{pictureOf}
+use Rattle.plan.specs.Plan.{countOf, feeOf}
+use Rattle.quality.specs.Quality.{showsOf}
+use Rattle.marking.specs.Marks.{codesOf}
 use Rattle.float64.specs.Float64.{samples}
 use Rattle.native_fp.specs.NativeFp.{gathered}
 
@@ -68,6 +73,35 @@ strips height rows = shapeOf (sides 1 height rows 0) false
 abbrev tiles : Shape
 tiles = shapeOf (sides 17 5 0 16) true
 
+-- Two strips of one row of two pixels in a file of either byte order: behind eight bytes an entry of two offsets and one of two counts, all of type 3,
+-- then the packets.
+abbrev short : Bool → ℕ → List ℕ
+short big n = pick big (n / 256 ∷ n % 256 ∷ []) (n % 256 ∷ n / 256 ∷ [])
+
+abbrev twoShorts : Bool → ℕ → ℕ → ℕ → List ℕ
+twoShorts big tag a b = short big tag ++ (short big 3 ++ (pick big (0 ∷ 0 ∷ 0 ∷ 2 ∷ []) (2 ∷ 0 ∷ 0 ∷ 0 ∷ []) ++ (short big a ++ short big b)))
+
+abbrev second : List ℕ
+second = 0x02 ∷ 0x01 ∷ 0x01 ∷ 0x80 ∷ 0x07 ∷ 0x80 ∷ 0x03 ∷ 0x80 ∷ 0x02 ∷ []
+
+abbrev twoStrips : Bool → Seen
+twoStrips big = seen (replicate 8 0 ++ (twoShorts big 273 32 40 ++ (twoShorts big 279 8 9 ++ (first ++ second)))) []
+
+abbrev twoStripsFormat : Bool → Format
+twoStripsFormat big = formatWith big 2 (replicate stripOffsets 0 ++ (8 ∷ (replicate 3 0 ++ (20 ∷ [])))) (shapeOf (sides 2 2 1 0) false)
+
+-- the counts, the fees, the quality codes, the picture
+abbrev twoStripsShown : Bool → List ℕ
+twoStripsShown big =
+    let v = twoStrips big in
+    let f = twoStripsFormat big in
+    (countOf v f 0 ∷ countOf v f 1 ∷ feeOf v f 0 ∷ feeOf v f 1 ∷ []) ++ (codesOf v f ++ pictureOf f (showsOf v f))
+
+abbrev twoStripsSay : List ℕ
+twoStripsSay =
+    (8 ∷ 9 ∷ 49 ∷ 50 ∷ 1 ∷ 1 ∷ [])
+    ++ (onePixel ++ (onePixel ++ (0x07 ∷ 0x01 ∷ 0x17 ∷ 0x01 ∷ 0xC7 ∷ 0x00 ∷ 0x07 ∷ 0x01 ∷ 0x17 ∷ 0x01 ∷ 0xC7 ∷ 0x00 ∷ [])))
+
 unfoldable pub cases : List Case
 cases =
     case 1 (caseShown first) ((0 ∷ []) ++ (onePixel ++ (onePixel ++ (49 ∷ []))))
@@ -82,4 +116,5 @@ cases =
     ∷ case 10 (rowsOfEach tiles ++ (byteSegment 6 17 16 16 (acrossOf tiles) 98 ∷ byteLocal 6 17 16 16 98 ∷ [])) (16 ∷ 16 ∷ 1 ∷ 2 ∷ [])
     ∷ case 11 (drop 8 (samples true true 2 1 1 2 (replicate 8 0xFF ++ (2 ∷ replicate 7 0)))) (1 ∷ replicate 7 0)
     ∷ case 12 (gathered 4 1 2 true (1 ∷ 1 ∷ 1 ∷ 1 ∷ [])) (3 ∷ 1 ∷ 4 ∷ 2 ∷ [])
+    ∷ case 13 (twoStripsShown false ++ twoStripsShown true) (twoStripsSay ++ twoStripsSay)
     ∷ []

@@ -1,6 +1,7 @@
--- Bytes that are there are the file's own, and the words that they make are those seen.
+-- What the check of bytes says of them; bytes that are there are the file's own, and the words that they make are those seen.
 use Prim.Native.Nat.{ℕ, zero, suc, _+_, _-_, _*_, _<_, _≤_}
 use mathlib.Core.Path.{_≡_, refl, sym, _∙_}
+use mathlib.Core.Logic.{_↔_}
 use mathlib.Core.List.{List}
 use mathlib.Core.Bool.{Bool, true, false}
 use native.Mathlib.Omega.{arith}
@@ -8,12 +9,13 @@ use lib.ListN.{length, getD, take, drop}
 use lib.Seq.{drop-cons}
 use lib.Dec.{leb}
 use borrow.Author.Needs.{needs}
-use borrow.Author.Tests.{leb-true, le-leb}
+use borrow.Author.Tests.{leb-true, leb-false, le-leb}
 use Rattle.lists.specs.Lists.{pick, span}
+use Rattle.checks.specs.Numbers.{truncated, notArrived}
 use Rattle.checks.specs.Checks.{verdict, Holds}
 use Rattle.checks.specs.declared.Verdict.{Verdict}
 use Rattle.checks.specs.declared.Verdict.the-variants as verdict-is
-use Rattle.checks.proofs.Exact.{fine}
+use Rattle.checks.proofs.Exact.{fine, refused-fine}
 use Rattle.seen.specs.Seen.{Seen, seen, cameIn, whole, inside, reachOf, there, There, two, four}
 use Rattle.seen.specs.declared.Reach.{Reach}
 use Rattle.seen.specs.declared.Reach.the-variants.{Inside, Outside, Missing}
@@ -36,6 +38,13 @@ le-inside : (size at n : ℕ) → at + n ≤ size → inside size at n ≡ true
 unfolding inside
 le-inside size at n h = let a : at ≤ size = omega arith in let b : n ≤ size - at = omega arith in rw (le-leb at size a, le-leb n (size - at) b)
 
+inside-beyond : (size at n : ℕ) → inside size at n ≡ false → size < at + n
+inside-beyond size at n e = by (leb (at + n) size) refl
+  where
+    by : (b : Bool) → leb (at + n) size ≡ b → size < at + n
+    by true t = absurd (true-false (le-inside size at n (leb-true (at + n) size t)) e)
+    by false t = leb-false (at + n) size t
+
 module _ (v : Seen) (at n : ℕ) where
   pub there-holds : There v at n → Holds (there v at n)
   unfolding Holds
@@ -44,6 +53,32 @@ module _ (v : Seen) (at n : ℕ) where
   pub holds-there : Holds (there v at n) → There v at n
   unfolding Holds
   holds-there h = record { in-file = inside-le (v .size) at n (h .0); came-all = h .1 .0 }
+
+  -- its answer by its two tests
+  abbrev told : Bool → Bool → Verdict
+  told inner all = pick inner (pick all verdict-is.Fine (verdict-is.Refused notArrived)) (verdict-is.Refused truncated)
+
+  -- it refuses with 1 exactly if one of the bytes lies outside the file, and with 8 exactly if none does and one did not come (rule 2.1)
+  pub there-outside : (verdict (there v at n) ≡ verdict-is.Refused truncated) ↔ (v .size < at + n)
+  unfolding verdict
+  there-outside = by (inside (v .size) at n) (whole (v .came) at n) refl
+    where
+      by : (b w : Bool) → inside (v .size) at n ≡ b → (told b w ≡ verdict-is.Refused truncated) ↔ (v .size < at + n)
+      by true true x = (λ q. absurd (refused-fine truncated (sym q)), λ l. absurd (omega (arith, inside-le (v .size) at n x)))
+      by true false x = (λ q. absurd (let k : notArrived ≡ truncated = cc in omega arith), λ l. absurd (omega (arith, inside-le (v .size) at n x)))
+      by false w x = (λ q. inside-beyond (v .size) at n x, λ l. refl)
+
+  pub there-missing : (verdict (there v at n) ≡ verdict-is.Refused notArrived) ↔ ((at + n ≤ v .size) × (whole (v .came) at n ≡ false))
+  unfolding verdict
+  there-missing = by (inside (v .size) at n) (whole (v .came) at n) refl
+    where
+      by : (b w : Bool) → inside (v .size) at n ≡ b → (told b w ≡ verdict-is.Refused notArrived) ↔ ((at + n ≤ v .size) × (w ≡ false))
+      by true true x = (λ q. absurd (refused-fine notArrived (sym q)), λ p. absurd (true-false refl (p .1)))
+      by true false x = (λ q. (inside-le (v .size) at n x, refl), λ p. refl)
+      by false w x = (
+        λ q. absurd (let k : truncated ≡ notArrived = cc in omega arith),
+        λ p. absurd (omega (arith, inside-beyond (v .size) at n x)),
+      )
 
   pub there-of : {r : Verdict} → r ≡ verdict (there v at n) → r ≡ verdict-is.Fine → There v at n
   there-of e q = holds-there (fine (there v at n) .0 (sym e ∙ q))
