@@ -126,7 +126,7 @@ def scalars(r, slots):
         values[slot] = r.number(e.field[:SIZES[e.kind]])
     return values
 
-# Profile, fourth step (rule 3.4): three values that stand elsewhere, all of one number.
+# Profile, fourth step (rule 3.4): three values of one number, which are too long for the field and so stand elsewhere (rule 2.13).
 def three(r, e, wanted):
     if e is None or e.kind not in SIZES or e.count != 3:
         raise Refused(3)
@@ -208,7 +208,8 @@ GARBAGE = b'\xab\xcd'   # stands where no one may look: in the rest of a field, 
 
 def tiff(pages, big=False, first=None, size=None):
     """A file of pages (place, entries, next offset). An entry is (tag, type, count, value): bytes are the field
-    itself, a number is written into it, a list is put behind the directory, a pair (place, list) at its place."""
+    itself, a number is written into it, a list too where it fits, else it is put behind the directory, a pair (place, list)
+    always at its place."""
     order, file = '>' if big else '<', bytearray()
 
     def put(at, part):
@@ -221,7 +222,10 @@ def tiff(pages, big=False, first=None, size=None):
             return value, free
         if isinstance(value, (list, tuple)):
             place, items = (free, value) if isinstance(value, list) else value
-            end = put(place, b''.join(struct.pack(order + ('I' if kind == 4 else 'H'), x) for x in items))
+            part = b''.join(struct.pack(order + ('I' if kind == 4 else 'H'), x) for x in items)
+            if isinstance(value, list) and len(part) <= 4:
+                return (part + GARBAGE)[:4], free
+            end = put(place, part)
             return struct.pack(order + 'I', place), end if place == free else free
         if kind == 3 and count == 1:
             return struct.pack(order + 'H', value) + GARBAGE, free

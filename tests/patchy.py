@@ -17,11 +17,11 @@ import zlib
 import front
 import strict
 from common import FILL, ROOM, TOP, Draw, record_of
-from front import GARBAGE, NOTE, SIZES, STRIPS, WIDE, Limits, Reading, Refused, but, limited, patched, picture, tiff
+from front import NOTE, SIZES, STRIPS, WIDE, Limits, Reading, Refused, but, limited, patched, picture, tiff
 from leaf import CASE1, literal, packets
 from libtiff import file_of, vouched
-from strict import (COUNTS, KINDS, LOTS, OFFSETS, ORDERS, STRIP3, TILE2, coded, drawn, flat, inspected, laid, marked, rows, shown, strips, tiles,
-                    value, with_base, with_part, with_range, wrong_parts)
+from strict import (COUNTS, KINDS, LOTS, OFFSETS, ORDERS, STRIP3, TILE2, coded, drawn, flat, inspected, laid, marked, placed, rows, shown,
+                    strips, tiles, value, with_base, with_part, with_range, wrong_parts)
 
 # What is asked for, the lengths of the three buffers, the file and its map. Of libtiff's pictures, the CRC-32 of the pixels.
 Record = collections.namedtuple('Record', 'tag page limits units output scratch quality file blocks crc', defaults=(None,))
@@ -110,27 +110,6 @@ def blocks_in(file):
 def all_but(file, *lost, says=0):
     """A map of the file on which some blocks did not come."""
     return bytes(says if i in lost else 1 for i in range(blocks_in(file)))
-
-def placed(page, offsets=None, counts=None, at=None, kinds=(4, 4), directory=8, big=False, size=None):
-    """A file of one page. The arrays stand behind the directory or at places of their own, the segments behind all that, from a
-    place on, or each at a place of its own."""
-    entries, parts = page
-    tags = (324, 325) if any(e[0] == 324 for e in entries) else (273, 279)
-
-    def made(starts):
-        columns = zip((starts, [len(part) for part in parts]), (offsets, counts))
-        values = [c[0] if len(c) == 1 else c if place is None else (place, c) for c, place in columns]
-        return tiff([(directory, but(entries, *((tag, kind, len(parts), v) for tag, kind, v in zip(tags, kinds, values))), 0)], big)
-
-    if not isinstance(at, (list, tuple)):
-        base = len(made([0] * len(parts))) if at is None else at
-        at = [base + len(b''.join(parts[:k])) for k in range(len(parts))]
-    file = made(at)
-    for start, part in zip(at, parts):
-        file += (GARBAGE * start)[len(file):start + len(part)]
-        file = patched(file, start, part)
-    file += (GARBAGE * (size or 0))[len(file):]
-    return file[:size]
 
 def turned(page, big=False):
     """A file whose segments stand behind the header, and the directory and its arrays behind them."""
@@ -613,9 +592,11 @@ WRONG = (
     ('outside of all before arrival of any', '    try:\n' + READ,
      SEEN_WHOLE + '    try:\n        bare.part(value(bare, f.offsets, k), value(bare, f.counts, k))\n' + READ),
     ('the whole array of offsets is to come', READ,
-     '        if f.segments > 1:\n            r.part(r.number(f.offsets.field), SIZES[f.offsets.kind] * f.segments)\n' + READ),
+     '        if SIZES[f.offsets.kind] * f.segments > 4:\n'
+     '            r.part(r.number(f.offsets.field), SIZES[f.offsets.kind] * f.segments)\n' + READ),
     ('the whole array of counts is to come', '        stored = ',
-     '        if f.segments > 1:\n            r.part(r.number(f.counts.field), SIZES[f.counts.kind] * f.segments)\n        stored = '),
+     '        if SIZES[f.counts.kind] * f.segments > 4:\n'
+     '            r.part(r.number(f.counts.field), SIZES[f.counts.kind] * f.segments)\n        stored = '),
     ('a range of the first segment for all', 'offset = value(r, f.offsets, k)', 'offset = value(r, f.offsets, 0)'),
     ('a count of the first segment for all', 'count = value(r, f.counts, k)', 'count = value(r, f.counts, 0)'),
     ('the first segment is always good', '    try:\n' + READ,

@@ -10,8 +10,8 @@ import collections
 import zlib
 
 from common import FILL, TOP, Draw, record_of
-from front import (LIMITS, NOTE, SIZES, STRIPS, TILES, WIDE, Limits, Reading, Refused, but, directories, limited, patched, picture,
-                   sizes_of, tiff)
+from front import (GARBAGE, LIMITS, NOTE, SIZES, STRIPS, TILES, WIDE, Limits, Reading, Refused, but, directories, limited, patched,
+                   picture, sizes_of, tiff)
 from leaf import CASE1, counted, expanded, good, listed, literal, packets, pixels, run
 
 # What inspection is asked for, what is done to its handle or to the limits, and what decode is given: its units, the lengths
@@ -24,11 +24,11 @@ Handle = collections.namedtuple('Handle', 'width height block_width block_height
                                 ' entries page scratch work')
 FIELDS = Handle._fields + tuple('max_' + name for name in Limits._fields)
 
-# Segments (rules 2.12 and 2.13): the value of an array that stands for segment k. A single one stands in the entry itself.
+# Segments (rules 2.12 and 2.13): the value of an array that stands for segment k. Where all fit into the field they stand there.
 def value(r, array, k):
     size = SIZES[array.kind]
-    if array.count == 1:
-        return r.number(array.field[:size])
+    if size * array.count <= 4:
+        return r.number(array.field[size * k:size * (k + 1)])
     return r.number(r.part(r.number(array.field) + size * k, size))
 
 # Segments (rule 4.1): a strip has those rows of the picture that lie in it, a tile has all of its own.
@@ -161,15 +161,16 @@ def tiles(width, height, make=flat, seed=0, wide=16, high=16):
     return but(TILES, *sides), [make(wide, high, seed + k) for k in range(n)]
 
 def laid(*pages, big=False, kinds=(4, 4), last=None, after=0):
-    """A file of pages: each has a directory, its arrays and its segments behind that, and the array of the tag last behind these."""
+    """A file of pages: each has a directory, its arrays and its segments behind that, and the array of the tag last behind these,
+    but for arrays that fit into the field."""
     at, made, data = 8, [], []
     for entries, parts in pages:
         tags = (324, 325) if any(e[0] == 324 for e in entries) else (273, 279)
 
         def directory(offsets, end):
-            columns = (offsets, [len(part) for part in parts])
-            values = (c[0] if len(c) == 1 else (end, c) if tag == last and end else c for tag, c in zip(tags, columns))
-            return but(entries, *((tag, kind, len(parts), v) for tag, kind, v in zip(tags, kinds, values)))
+            columns = zip(tags, kinds, (offsets, [len(part) for part in parts]))
+            return but(entries, *((tag, kind, len(c), (end, c) if tag == last and end and SIZES[kind] * len(c) > 4 else c)
+                                  for tag, kind, c in columns))
 
         base = len(tiff([(at, directory([0] * len(parts), None), 0)], big))
         offsets = [base + len(b''.join(parts[:k])) for k in range(len(parts))]
@@ -183,6 +184,27 @@ def laid(*pages, big=False, kinds=(4, 4), last=None, after=0):
         file = patched(file, base, part)
     return file
 
+def placed(page, offsets=None, counts=None, at=None, kinds=(4, 4), directory=8, big=False, size=None):
+    """A file of one page. The arrays stand in their fields where they fit, else behind the directory, or at places of their own. The
+    segments stand behind all that, from a place on, or each at a place of its own."""
+    entries, parts = page
+    tags = (324, 325) if any(e[0] == 324 for e in entries) else (273, 279)
+
+    def made(starts):
+        columns = zip((starts, [len(part) for part in parts]), (offsets, counts))
+        values = [c if place is None else (place, c) for c, place in columns]
+        return tiff([(directory, but(entries, *((tag, kind, len(parts), v) for tag, kind, v in zip(tags, kinds, values))), 0)], big)
+
+    if not isinstance(at, (list, tuple)):
+        base = len(made([0] * len(parts))) if at is None else at
+        at = [base + len(b''.join(parts[:k])) for k in range(len(parts))]
+    file = made(at)
+    for start, part in zip(at, parts):
+        file += (GARBAGE * start)[len(file):start + len(part)]
+        file = patched(file, start, part)
+    file += (GARBAGE * (size or 0))[len(file):]
+    return file[:size]
+
 OFFSETS, COUNTS = 0, 1
 
 def array_of(file, which, page=0):
@@ -194,7 +216,8 @@ def array_of(file, which, page=0):
 def place_of(file, which, k, page=0):
     """Where value k of an array stands, and how many bytes it has."""
     r, e = array_of(file, which, page)
-    return e.place + 8 if e.count == 1 else r.number(e.field) + SIZES[e.kind] * k, SIZES[e.kind]
+    size = SIZES[e.kind]
+    return (e.place + 8 if size * e.count <= 4 else r.number(e.field)) + size * k, size
 
 def value_of(file, which, k, page=0):
     r, e = array_of(file, which, page)
@@ -206,8 +229,9 @@ def with_value(file, which, k, n, page=0):
     return patched(file, place, n.to_bytes(size, array_of(file, which, page)[0].order))
 
 def with_base(file, which, n):
-    """The file with another number as the place of an array."""
+    """The file with another number as the place of an array, which is too long for its field."""
     r, e = array_of(file, which)
+    assert SIZES[e.kind] * e.count > 4
     return patched(file, e.place + 8, n.to_bytes(4, r.order))
 
 def with_range(file, k, offset, count):
@@ -233,7 +257,7 @@ def record(tag, file, page=0, units=LOTS, change=None, to=None, more=(0, 0, 0), 
 
 # ---- vectors ----
 
-STRIP3, TILE2 = strips(3, 5, 2), tiles(17, 5)
+STRIP3, STRIP2, TILE2 = strips(3, 5, 2), strips(3, 4, 2, seed=2), tiles(17, 5)
 ORDERS = ('l', False), ('b', True)
 KINDS = (4, 4), (3, 3), (3, 4), (4, 3)
 
@@ -252,7 +276,7 @@ def layouts():
             t = '%d%d%s' % (kinds + (s,))
             yield record('strips-' + t, laid(STRIP3, big=big, kinds=kinds))
             yield record('strip-' + t, laid(strips(3, 5, 5, seed=1), big=big, kinds=kinds))
-            yield record('two-strips-' + t, laid(strips(3, 4, 2, seed=2), big=big, kinds=kinds))
+            yield record('two-strips-' + t, laid(STRIP2, big=big, kinds=kinds))
             yield record('tiles-' + t, laid(TILE2, big=big, kinds=kinds))
         yield record('tile-' + s, laid(tiles(5, 16, coded), big=big))
         yield record('edge-tiles-' + s, laid(tiles(17, 17, coded), big=big))
@@ -667,24 +691,79 @@ def packed(r):
     return record_of(r.tag, (r.page, *r.limits, r.units, r.field, r.value, r.decode_units), (r.output, r.scratch), r.file, r.other)
 
 # Mistakes, each a change of one place of the model: what they are, the text and what stands there instead. Two of them need `listed`.
-WRONG = (
-    # values of arrays
-    ('a single value stands elsewhere', 'if array.count == 1:', 'if array.count == 0:'),
-    ('values that fit stand in the entry', 'if array.count == 1:\n        return r.number(array.field[:size])',
-     'if array.count * size <= 4:\n        return r.number((array.field * 2)[size * k:size * (k + 1)])'),
-    ('a single value has four bytes', 'array.field[:size]', 'array.field'),
-    ('a single value has two bytes', 'array.field[:size]', 'array.field[:2]'),
-    ('a single value is the last two bytes', 'array.field[:size]', 'array.field[4 - size:]'),
-    ('every value is the first', '+ size * k, size', '+ size * 0, size'),
-    ('values from the second on', '+ size * k, size', '+ size * (k + 1), size'),
-    ('values four bytes apart', '+ size * k, size', '+ 4 * k, size'),
-    ('values two bytes apart', '+ size * k, size', '+ 2 * k, size'),
+FITS = 'if size * array.count <= 4:'
+FIELD = 'r.number(array.field[size * k:size * (k + 1)])'
+IN_FIELD = FITS + '\n        return ' + FIELD
+PLACE = 'r.number(r.part(r.number(array.field) + size * k, size))'
+VALUES_WRONG = (
+    # which values stand in the field
+    ('a single value stands elsewhere', FITS, 'if size * array.count <= 4 and array.count > 1:'),
+    ('a single short stands elsewhere', FITS, 'if size * array.count == 4:'),
+    ('only a single value stands in the field', FITS, 'if array.count == 1:'),
+    ('values that fill the field stand elsewhere', FITS, 'if size * array.count < 4:'),
+    ('no value stands in the field', FITS, 'if False:'),
+    ('every value stands in the field', FITS, 'if True:'),
+    ('two values of either type stand in the field', FITS, 'if array.count <= 2:'),
+    ('two values of either type are the field, again and again', IN_FIELD,
+     'if array.count <= 2:\n        return r.number((array.field * 2)[size * k:size * (k + 1)])'),
+    ('two values of either type stand in the field and behind it', IN_FIELD,
+     'if array.count <= 2:\n        return r.number(r.file[array.place + 8 + size * k:][:size])'),
+    ('three shorts stand in the field', FITS, 'if size * array.count <= 6:'),
+    ('three shorts stand in the field and behind it', IN_FIELD,
+     'if size * array.count <= 6:\n        return r.number(r.file[array.place + 8 + size * k:][:size])'),
+    ('the first two of three shorts stand in the field', FITS,
+     'if size * array.count <= 4 or size * (k + 1) <= 4 and array.count == 3:'),
+) + tuple(('two shorts stand in the field %s only' % name, FITS, 'if array.count == 1 or size * array.count <= 4 and %s:' % where)
+          for name, where in (('of offsets', 'array.tag in (273, 324)'), ('of counts', 'array.tag in (279, 325)'),
+                              ('of strips', 'array.tag in (273, 279)'), ('of tiles', 'array.tag in (324, 325)'),
+                              ('of little-endian files', "r.order == 'little'"), ('of big-endian files', "r.order == 'big'"))) + (
+    # where in the field
+    ('a single value has four bytes', FIELD,
+     'r.number(array.field if array.count == 1 else array.field[size * k:size * (k + 1)])'),
+    ('a single value has two bytes', FIELD, 'r.number(array.field[2 * k:2 * (k + 1)])'),
+    ('a single value is the last two bytes', FIELD, 'r.number(array.field[4 - size * (array.count - k):][:size])'),
+    ('the second of two is the first', FIELD, 'r.number(array.field[:size])'),
+    ('the first of two is the second', FIELD, 'r.number(array.field[size * (array.count - 1):][:size])'),
+    ('two are swapped', FIELD, 'r.number(array.field[size * (array.count - 1 - k):][:size])'),
+    ('two are halves of a number, the low one first', FIELD,
+     'r.number(array.field[:size]) if array.count == 1 else r.number(array.field) >> 16 * k & 65535'),
+    ('two are halves of a number, the high one first', FIELD,
+     'r.number(array.field[:size]) if array.count == 1 else r.number(array.field) >> 16 * (1 - k) & 65535'),
+    ('two are the whole field', FIELD, 'r.number(array.field)'),
+    ('the second begins at the next byte', FIELD, 'r.number(array.field[k:k + size])'),
+    ('values of the field are little-endian', FIELD, "int.from_bytes(array.field[size * k:size * (k + 1)], 'little')"),
+    ('values of the field are big-endian', FIELD, "int.from_bytes(array.field[size * k:size * (k + 1)], 'big')"),
+    ('values of the field have a byte', FIELD, FIELD + ' % 256'),
+    ('values stand where the count is', FIELD, 'r.number(r.file[array.place + 4 + size * k:][:size])'),
+    ('values stand two bytes before the field', FIELD, 'r.number(r.file[array.place + 6 + size * k:][:size])'),
+    ('values stand two bytes into the field', FIELD, 'r.number(r.file[array.place + 10 + size * k:][:size])'),
+    ('values stand in the next field', FIELD, 'r.number(r.file[array.place + 20 + size * k:][:size])'),
+    # the field is no place
+    ('the second stands at the place that the field holds', FIELD,
+     'r.number(r.part(r.number(array.field), size) if k else array.field[:size])'),
+    ('the second stands behind the place that the field holds', FIELD,
+     'r.number(r.part(r.number(array.field) + size, size) if k else array.field[:size])'),
+    ('the first stands at the place that the field holds', FIELD,
+     'r.number(r.part(r.number(array.field), size) if array.count == 2 and k == 0 else array.field[size * k:size * (k + 1)])'),
+    ('the field must be a place inside', IN_FIELD,
+     IN_FIELD.replace('return', 'r.part(r.number(array.field), 0)\n        return')),
+    ('the field of two must be a place inside', IN_FIELD,
+     IN_FIELD.replace('return', 'r.part(r.number(array.field) if array.count == 2 else 0, 0)\n        return')),
+    ('a value of 0 stands at the place that the field holds', IN_FIELD,
+     FITS + '\n        own = array.field[size * k:size * (k + 1)]\n'
+     '        return r.number(own if any(own) else r.part(r.number(array.field), size))'),
+    # values elsewhere
+    ('every value is the first', PLACE, PLACE.replace('size * k', 'size * 0')),
+    ('values from the second on', PLACE, PLACE.replace('size * k', 'size * (k + 1)')),
+    ('values four bytes apart', PLACE, PLACE.replace('size * k', '4 * k')),
+    ('values two bytes apart', PLACE, PLACE.replace('size * k', '2 * k')),
     ('values of four bytes', '    size = SIZES[array.kind]\n', '    size = 4\n'),
     ('values of two bytes', '    size = SIZES[array.kind]\n', '    size = 2\n'),
-    ('the whole array is inside', '    return r.number(r.part(r.number(array.field)',
-     '    r.part(r.number(array.field), size * array.count)\n    return r.number(r.part(r.number(array.field)'),
-    ('values are cut at the end of the file', 'r.number(r.part(r.number(array.field) + size * k, size))',
-     'r.number(r.file[r.number(array.field) + size * k:][:size])'),
+    ('the whole array is inside', '    return ' + PLACE,
+     '    r.part(r.number(array.field), size * array.count)\n    return ' + PLACE),
+    ('values are cut at the end of the file', PLACE, 'r.number(r.file[r.number(array.field) + size * k:][:size])'),
+)
+WRONG = VALUES_WRONG + (
     # rows
     ('tiles are as high as the picture', '    if f.tiled:\n        return f.block_height\n',
      '    if f.tiled:\n        return min(f.block_height, f.height)\n'),
