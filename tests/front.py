@@ -816,6 +816,9 @@ def sizes():
             yield make('array-%d-far' % tag, (tag, 4, n, 2 ** 32 - 1))
         yield make('arrays-two-%d' % n, *arrays(*both, n, kind=3))
         yield make('arrays-none-%d' % n, *both)
+        # two values of type 3 are the field itself (rule 2.12), which is outside the file where it is taken for a place
+        for s, big in (('l', False), ('b', True)):
+            yield make('inline-%d-%s' % (both[0], s), (278, 3, 1, 3), *((tag, 3, 2, [tag, 9]) for tag in both), big=big)
     yield strips('single', (278, 3, 1, 5), *arrays(273, 279, 1, kind=3), big=True)
     yield strips('single-four', (278, 3, 1, 5), *arrays(273, 279, 1))
     yield strips('single-and-2', (278, 3, 1, 5), (273, 4, 1, 0), (279, 4, 2, 0))
@@ -905,6 +908,9 @@ def arrivals_of_body():
     yield record('loop-lost', tiff([(8, STRIPS, 600)], size=700), page=1, blocks=[1, 0])
     # what nobody needs may be lost
     yield record('arrays-lost', tiff([(8, but(STRIPS, (273, 4, 3, 600), (279, 4, 3, 700)), 0)], size=1025), blocks=[1, 0, 0])
+    for s, big, pair in (('l', False, [600, 0]), ('b', True, [0, 600])):
+        fields = but(STRIPS, (278, 3, 1, 3), (273, 3, 2, pair), (279, 3, 2, pair))
+        yield record('inline-lost-' + s, tiff([(8, fields, 0)], big, size=700), blocks=[1, 0])
     yield record('rest-lost', LITTLE + bytes(1500), blocks=[1, 0, 255, 2])
     yield record('exact-512', LITTLE + bytes(512 - len(LITTLE)), blocks=[1])
     yield record('exact-513', LITTLE + bytes(513 - len(LITTLE)), blocks=[1, 0])
@@ -1370,6 +1376,11 @@ WRONG = (
      'if e is None or e.kind not in SIZES or e.count not in (1, 3):'),
     ('an array of up to three', 'if e is None or e.kind not in SIZES or e.count != 3:',
      'if e is None or e.kind not in SIZES or e.count > 3:'),
+    ('an array of two in the field too', 'if e is None or e.kind not in SIZES or e.count != 3:',
+     'if e is not None and e.kind == 3 and e.count == 2 and r.number(e.field[:2]) == r.number(e.field[2:]) == wanted:\n'
+     '        return\n    if e is None or e.kind not in SIZES or e.count != 3:'),
+    ('the first two of three stand in the field', 'r.number(r.part(base + size * k, size)) != wanted:',
+     'r.number(e.field[2 * k:2 * k + 2] if size == 2 and k < 2 else r.part(base + size * k, size)) != wanted:'),
     ('three values side by side in two bytes', 'size, base = SIZES[e.kind], r.number(e.field)', 'size, base = 2, r.number(e.field)'),
     ('three values in four bytes', 'size, base = SIZES[e.kind], r.number(e.field)', 'size, base = 4, r.number(e.field)'),
     ('the base has two bytes', 'size, base = SIZES[e.kind], r.number(e.field)', 'size, base = SIZES[e.kind], r.number(e.field) % 65536'),
@@ -1522,6 +1533,13 @@ WRONG = (
     ('only the counts', 'for array in (offsets, counts):', 'for array in (offsets, counts) if offsets is None else (counts,):'),
     ('the arrays must be inside', '        if array.count != segments:\n',
      '        if array.count > 1:\n            r.part(r.number(array.field), array.count * SIZES[array.kind])\n        if array.count != segments:\n'),
+    ('two shorts must be inside', '        if array.count != segments:\n',
+     '        if array.kind == 3 and array.count == 2:\n            r.part(r.number(array.field), 0)\n'
+     '        if array.count != segments:\n'),
+    ('two shorts must have come', '        if array.count != segments:\n',
+     '        if array.kind == 3 and array.count == 2 and r.number(array.field) < len(r.file):\n'
+     '            r.part(r.number(array.field), 1)\n        if array.count != segments:\n'),
+    ('arrays without values', 'if array.count != segments:', 'if array.count not in (0, segments):'),
     ('offsets and counts swapped', 'r.order, offsets, counts, n)', 'r.order, counts, offsets, n)'),
     ('tiles by the strips\' slots', "(slots.get(15), slots.get(16)) if tiled else", "(slots.get(6), slots.get(10)) if tiled else"),
     ('a refusal gives the units back', "return '%-16s%s, left %d' % (record.tag, said, r.left)",

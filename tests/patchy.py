@@ -12,16 +12,18 @@ the pixels are then those of strict reading, by the model of tests/strict.py (ru
 the pixels are libtiff's own, by its CRC-32.
 """
 import collections
+import inspect
 import zlib
 
 import front
 import strict
 from common import FILL, ROOM, TOP, Draw, record_of
 from front import NOTE, SIZES, STRIPS, WIDE, Limits, Reading, Refused, but, limited, patched, picture, tiff
-from leaf import CASE1, literal, packets
+from leaf import CASE1, literal, packets, run
 from libtiff import file_of, vouched
-from strict import (COUNTS, KINDS, LOTS, OFFSETS, ORDERS, STRIP3, TILE2, coded, drawn, flat, inspected, laid, marked, placed, rows, shown,
-                    strips, tiles, value, with_base, with_part, with_range, wrong_parts)
+from strict import (COUNTS, IN_FIELD, KINDS, LOTS, OFFSETS, ORDERS, PAIRS, STRIP2, STRIP3, TILE2, VALUES_WRONG, coded, drawn, emptied,
+                    flat, headed, inspected, laid, marked, placed, rows, shown, strips, tiles, value, with_base, with_part,
+                    with_range, wrong_parts)
 
 # What is asked for, the lengths of the three buffers, the file and its map. Of libtiff's pictures, the CRC-32 of the pixels.
 Record = collections.namedtuple('Record', 'tag page limits units output scratch quality file blocks crc', defaults=(None,))
@@ -251,6 +253,12 @@ def rooms():
     for way, more in (('output', (-1, 0, 0)), ('scratch', (0, -1, 0)), ('quality', (0, 0, -1)), ('just', (0, 0, 0))):
         yield record('no-good-' + way, with_base(STRIPED, OFFSETS, 5000), more=more)
 
+def around(name, file, blocks):
+    """Units one short of all that is charged, just enough and one more."""
+    all_of_it = taken(record(name, file, blocks))
+    for way, n in (('less', -1), ('just', 0), ('one', 1)):
+        yield record('%s-%s' % (name, way), file, blocks, units=all_of_it + n)
+
 def charged():
     # one short, just enough and one more: at each charge of the front part, and at the one charge of all segments
     far = placed(STRIP3, at=[180, 512, 560])
@@ -259,10 +267,8 @@ def charged():
              ('out', with_range(STRIPED, 1, 5000, 1), b''), ('no-offsets', with_base(STRIPED, OFFSETS, 5000), b''),
              ('no-counts', with_base(STRIPED, COUNTS, 5000), b'\x01'), ('empty', with_range(STRIPED, 2, 0, 0), b''),
              ('all-bad', with_base(STRIPED, OFFSETS, 0), b''), ('out-and-bad', with_range(bad, 0, 5000, 1), b''))
-    for name, file, blocks in cases:
-        all_of_it = taken(record(name, file, blocks))
-        for way, n in (('less', -1), ('just', 0), ('one', 1)):
-            yield record('%s-%s' % (name, way), file, blocks, units=all_of_it + n)
+    for case in cases:
+        yield from around(*case)
     for units in (0, 10, 11, 138, 139, 140, TOP):
         yield record('units-%s' % (units if units < TOP else 'top'), STRIPED, b'\x01', units=units)
     # one charge for all: units for the first segment, or for all but the last, are not taken
@@ -307,6 +313,73 @@ def ends():
     # lost entries whose bytes name good packets
     yield record('count-lost-fine', counts_lost, b'\x01\x00')
     yield record('offset-lost-fine', placed(STRIP3, offsets=512, at=180), b'\x01\x00')
+
+def inlines():
+    """Two values of type 3, which stand in the field and came with the directory (rule 2.12)."""
+    for s, big in ORDERS:
+        # a field that would be a place in a block: one that came, and one that did not
+        for name, tiled in (('s', False), ('t', True)):
+            zero, empty = headed(big, tiled, (3, 4)), emptied(big, tiled, (4, 3))
+            yield record('zero-%s-%s' % (name, s), zero, all_but(zero))
+            yield record('zero-%s-%s-none' % (name, s), zero)
+            yield record('zero-%s-%s-lost' % (name, s), zero, all_but(zero, 2))
+            yield record('empty-%s-%s' % (name, s), empty, all_but(empty))
+            yield record('empty-%s-%s-lost' % (name, s), empty, all_but(empty, 1))
+        # two blocks with the edge between the two values of a field
+        for name, at in (('offsets', 440), ('counts', 404)):
+            file = placed(STRIP2, kinds=(3, 3), directory=at, big=big)
+            yield record('%s-%s' % (name, s), file, b'\x01\x01')
+            yield record('%s-%s-lost' % (name, s), file, b'\x01\x00')
+        # pages after the first, of which the last directory is in the second block
+        file = laid(STRIP3, STRIP2, TILE2, big=big, kinds=(3, 3))
+        for page in (1, 2):
+            yield record('page-%d-%s' % (page, s), file, b'\x01\x01', page)
+            yield record('page-%d-%s-lost' % (page, s), file, b'\x01\x00', page)
+
+def inline_blocks():
+    # header, directory and both segments in blocks of their own, in two orders, of which one did not come
+    for s, big in ORDERS:
+        for name, (entries, parts), tags in PAIRS:
+            directory, at = (1536, [512, 1024]) if big else (512, [1024, 1536])
+            file = placed((apart(entries, 20, 30), parts), kinds=(3, 3), directory=directory, at=at, big=big)
+            yield record('%s-%s-none' % (name, s), file)
+            yield record('%s-%s-all' % (name, s), file, all_but(file))
+            for i in range(4):
+                yield record('%s-%s-no-%d' % (name, s, i), file, all_but(file, i))
+    # the other array is of type 4: across the edge of a block, and where the end of the file cuts it
+    for kinds, other in (((4, 3), 'offsets'), ((3, 4), 'counts')):
+        for s, big in ORDERS:
+            for name, page, tags in PAIRS:
+                t, file = '%s-%d%d%s' % (name, *kinds, s), placed(page, kinds=kinds, at=[200, 340], big=big, **{other: 508})
+                yield record('edge-' + t, file, b'\x01\x01')
+                yield record('edge-%s-lost' % t, file, b'\x01\x00')
+        for (s, big), (name, page, tags) in zip(ORDERS, PAIRS):
+            t, file = '%s-%d%d%s' % (name, *kinds, s), placed(page, kinds=kinds, at=[200, 340], big=big, **{other: 512})
+            yield record('cut-' + t, file[:-1], b'\x01\x01')
+            yield record('cut-%s-lost' % t, file[:-1], b'\x01\x00')
+            yield record('no-' + t, file[:512], b'\x01')
+
+def inline_ranges():
+    # counts above 2^15, of bytes that are all the control of one literal
+    parts = [b'\x7f' * n for n in (32800, 33000)]
+    yield record('above-2^15', placed((STRIP2[0], parts), kinds=(3, 3), at=[300, 400], big=True))
+    # a segment outside, not arrived, empty and with packets that are refused; the other one is good
+    for k, big in enumerate((False, True)):
+        file = placed(STRIP2, kinds=(3, 3), at=[200, 240], big=big, size=560)
+        for name, start, count in (('out', 559, 2), ('past', 561, 0), ('top', 65535, 65535), ('lost', 559, 1),
+                                   ('before', 200, 312), ('before-1', 200, 313), ('empty', 520, 0), ('bad', 8, 9)):
+            other = with_range(file, k, start, count)
+            yield record('%d-%s' % (k, name), other, b'\x01\x00')
+            if name in ('out', 'lost', 'empty'):
+                yield record('%d-%s-came' % (k, name), other, b'\x01\x01')
+    # units
+    file, far = laid(STRIP2, kinds=(3, 3)), placed(STRIP2, kinds=(3, 3), at=[200, 512])
+    for case in (('good', file, b''), ('tiles', laid(TILE2, kinds=(3, 3), big=True), b'\x01'), ('lost', far, b'\x01\x00'),
+                 ('out', with_range(file, 1, 5000, 1), b''), ('bad', with_part(file, 0, run(129, 7)), b''),
+                 ('empty', with_range(file, 0, 0, 0), b'')):
+        yield from around(*case)
+    for units in (10, 11, 138, 139):
+        yield record('units-%d' % units, file, b'\x01', units=units)
 
 def ranges():
     # a range outside the file, whose first bytes did not come; in each segment, with the others good
@@ -427,7 +500,8 @@ def stale():
     bases = (('first', placed(page, **spread), placed(former, **{**spread, 'at': [1030, 580, 640, 700]}), ((1,), (2,), (0,))),
              ('last', placed(page, at=8, directory=420), placed(former, at=8, directory=420), ((0,), (1,))),
              ('tiles', placed(TILE2, at=[400, 560], big=True), placed(tiles(17, 5, seed=3), at=[400, 530], big=True), ((1,),)),
-             ('codes', with_range(placed(page, **spread), 1, 700, 3), laid(TILE2), ((2,), (1, 2))))
+             ('codes', with_range(placed(page, **spread), 1, 700, 3), laid(TILE2), ((2,), (1, 2))),
+             ('inline', headed(False), emptied(False), ((2,),)))
     for name, file, before, losses in bases:
         before = (before + b'?' * len(file))[:len(file)]
         for lost in losses:
@@ -466,9 +540,10 @@ def whole():
     for i, r in enumerate(strict.layouts()):
         if len(r.file) < 700 and i % 4 == 0:
             yield agrees(came(r.tag, r))
-    for made, step in ((strict.entries, 11), (strict.ranges, 11), (strict.budgets, 9), (strict.packets_refused, 8)):
+    for made, step in ((strict.entries, 11), (strict.ranges, 11), (strict.budgets, 9), (strict.packets_refused, 8),
+                       (strict.inlines, 3), (strict.inline_ranges, 5)):
         for i, r in enumerate(made()):
-            if i % step == 0:
+            if len(r.file) < 2000 and i % step == 0:
                 yield agrees(came('%d %s' % (i, r.tag[:12]), r))
     # libtiff's pictures
     for name, pages in vouched().items():
@@ -531,6 +606,9 @@ def files():
         ('order.bin', both(limits_and_maps(), fronts())),
         ('rooms.bin', both(rooms(), charged())),
         ('entries.bin', both(arrays(), ends())),
+        ('inline.bin', inlines()),
+        ('inline_blocks.bin', inline_blocks()),
+        ('inline_ranges.bin', inline_ranges()),
         ('quality.bin', both(ranges(), packets_bad(), singles())),
         ('metadata.bin', metadata()),
         ('single_first.bin', single(laid)),
@@ -550,7 +628,20 @@ ROOMS = ("    if len(output) < f.output:\n        raise Refused(6)\n    if len(s
          "    if len(quality) < f.segments:\n        raise Refused(6)\n")
 LIMIT = "    if needed > limits.output:\n        raise Refused(4)\n"
 CHARGE = "    r.charge(sum(charges))\n"
-WRONG = (
+# Mistakes of what this model has from tests/strict.py, the value of an array. The wrong function stands before the one that uses it.
+VALUE, USER = inspect.getsource(value), 'def judged(r, f, k):\n'
+ASKED_WRONG = tuple((name, IN_FIELD, IN_FIELD.replace('return', asked + '\n        return')) for name, asked in (
+    ('values of the field are lost with the place that it would be',
+     'if r.number(array.field) < len(r.file):\n            r.part(r.number(array.field), 1)'),
+    ('two values of the field are lost with the place that it would be',
+     'if array.count == 2 and r.number(array.field) < len(r.file):\n            r.part(r.number(array.field), 1)'),
+    ('the second value of the field is lost with the place that it would be',
+     'if k == 1 and r.number(array.field) < len(r.file):\n            r.part(r.number(array.field), 1)'),
+    ('a block behind the field is to come', 'if array.place + 512 < len(r.file):\n            r.part(array.place + 512, 1)'),
+    ('all up to the field is to come', 'r.part(0, array.place + 12)'),
+    ('all from the field on is to come', 'r.part(array.place, len(r.file) - array.place)'),
+    ('the last block is to come', 'r.part(len(r.file) - 1, 1)')))
+WRONG = tuple((name, USER, VALUE.replace(old, new) + USER) for name, old, new in VALUES_WRONG + ASKED_WRONG) + (
     # the quality of a segment
     ('outside is 2', 'CODES = {1: 3, 8: 2}', 'CODES = {1: 2, 8: 2}'),
     ('not arrived is 3', 'CODES = {1: 3, 8: 2}', 'CODES = {1: 3, 8: 3}'),

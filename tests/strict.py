@@ -409,20 +409,23 @@ class Charged(Reading):
         super().charge(units)
         self.taken.append(units)
 
+def at_each_charge(name, file, page=0):
+    """Units one short at each charge, just enough, none and all."""
+    r = Charged(file)
+    inspected(r, page, LIMITS)
+    for i in range(len(r.taken)):
+        enough = sum(r.taken[:i + 1])
+        for way, units in (('less', enough - 1), ('just', enough), ('more', enough + 1)):
+            if way != 'more' or i + 1 == len(r.taken):
+                yield record('%s-%s-%d' % (name, way, i), file, page=page, units=units)
+    yield record(name + '-0', file, page=page, units=0)
+    yield record(name + '-top', file, page=page, units=TOP)
+
 def budgets():
-    # one short at each charge, and just enough
     bases = (('strips', laid(STRIP3), 0), ('tiles', laid(TILE2, big=True), 0), ('one', laid(strips(2, 3, 3)), 0),
              ('second', laid(strips(1, 2, 2), STRIP3), 1), ('loop', laid(strips(2, 3, 2), after=8), 2))
-    for name, file, page in bases:
-        r = Charged(file)
-        inspected(r, page, LIMITS)
-        for i in range(len(r.taken)):
-            enough = sum(r.taken[:i + 1])
-            for way, units in (('less', enough - 1), ('just', enough), ('more', enough + 1)):
-                if way != 'more' or i + 1 == len(r.taken):
-                    yield record('%s-%s-%d' % (name, way, i), file, page=page, units=units)
-        yield record(name + '-0', file, page=page, units=0)
-        yield record(name + '-top', file, page=page, units=TOP)
+    for base in bases:
+        yield from at_each_charge(*base)
     # the fee comes after the range and before the packets, segment by segment
     file, heights = laid(STRIP3), (2, 2, 1)
     fees = [len(part) + 60 * height + 1 for part, height in zip(STRIP3[1], heights)]
@@ -486,6 +489,85 @@ def packets_refused():
         yield record('2-at-%d-1-at-%d' % (i, j), with_part(with_part(laid(STRIP3), i, two), j, one))
         yield record('2-at-%d-out-%d' % (i, j), with_range(with_part(laid(STRIP3), i, two), j, 4000, 9))
         yield record('out-%d-2-at-%d' % (i, j), with_range(with_part(laid(STRIP3), j, two), i, 4000, 9))
+
+def headed(big, tiled=False, kinds=(3, 3)):
+    """A picture of two segments, one of which begins with the header: the mark's first byte is a literal's control. Its offset is 0,
+    so that a field with both offsets is the other's place if it is taken for one number. The two numbers there are 0 and 257, in
+    either byte order, and at these places are good segments too."""
+    n, high = b'IM'[big], 16 if tiled else 1
+    wide = 80 if tiled else n
+    entries = tiles(100, 3, wide=wide)[0] if tiled else strips(wide, 2, 1)[0]
+    first = tiff([(480, [NOTE], 0)], big)[:n + 1] + (run(wide - n, 9) if tiled else b'') + flat(wide, high, 1)[2:]
+    other = bytes(2) + literal(b'\x01') + run(wide - 1, 7) + flat(wide, high, 2)[2:]
+    turn = -1 if big else 1
+    parts, at = [other.ljust(len(first), b'\x00'), first][::turn], [1024, 0][::turn]
+    file = placed((entries, parts), at=at, kinds=kinds, directory=480, big=big)
+    return patched(file, 257, flat(wide, high, 3).ljust(len(first), b'\x00'))
+
+def emptied(big, tiled=False, kinds=(3, 3)):
+    """A picture of two segments, one of which is empty, so that a field with both counts is the other's count if it is taken for one
+    number. At that place are two counts with which both segments would be good."""
+    entries, parts = TILE2 if tiled else STRIP2
+    long = [part.ljust(600, b'\x00') if k == big else part for k, part in enumerate(parts)]
+    file = placed((entries, long), at=[1024 if k == big else 640 for k in range(2)], kinds=kinds, big=big)
+    counts = (len(part).to_bytes(2, 'big' if big else 'little') for part in parts)
+    return with_value(patched(file, 600, b''.join(counts)), COUNTS, 1 - big, 0)
+
+PAIRS = ('s', STRIP2, (273, 279)), ('t', TILE2, (324, 325))
+
+def inlines():
+    """Two values of type 3, which stand in the field (rule 2.12)."""
+    for s, big in ORDERS:
+        # each byte of a field counts: offsets and counts above 255, of which no two bytes are alike
+        parts = [part.ljust(n, b'\x00') for part, n in zip(STRIP2[1], (0x107, 0x209))]
+        yield record('bytes-' + s, placed((STRIP2[0], parts), at=[0x123, 0x345], kinds=(3, 3), big=big))
+        # a field that would be a place in the file
+        for name, tiled in (('s', False), ('t', True)):
+            for kinds in ((3, 3), (3, 4)):
+                yield record('zero-%s-%d%d%s' % (name, *kinds, s), headed(big, tiled, kinds))
+            for kinds in ((3, 3), (4, 3)):
+                yield record('empty-%s-%d%d%s' % (name, *kinds, s), emptied(big, tiled, kinds))
+        # pages after the first
+        for kinds in KINDS[1:]:
+            file = laid(STRIP3, STRIP2, TILE2, big=big, kinds=kinds)
+            for page in (1, 2):
+                yield record('page-%d-%d%d%s' % (page, *kinds, s), file, page=page)
+        # the end of the file cuts the other array, and where both stand in their fields the last segment
+        for name, page, tags in PAIRS:
+            for which, kinds in ((OFFSETS, (4, 3)), (COUNTS, (3, 4))):
+                whole = laid(page, big=big, kinds=kinds, last=tags[which])
+                for cut in (1, 5):
+                    yield record('cut-%s-%d%d%s-%d' % (name, *kinds, s, cut), whole[:-cut])
+            yield record('cut-%s-33%s-1' % (name, s), laid(page, big=big, kinds=(3, 3))[:-1])
+
+def inline_ranges():
+    """Segments whose offsets and counts stand in the field."""
+    yield record('above-2^15', placed(STRIP2, at=[33000, 33100], kinds=(3, 3)), input=TOP)
+    # outside and just inside, with packets that are refused, and with those of the other segment
+    for s, big in ORDERS:
+        for name, page, tags in PAIRS:
+            file = laid(page, big=big, kinds=(3, 3))
+            n = len(file)
+            for k in range(2):
+                for way, start, size in (('end', n, 0), ('past', n + 1, 0), ('last', n - 1, 2), ('top', 65535, 65535)):
+                    if name == 's' or way == 'past':
+                        yield record('%s%d-%s-%s' % (name, k, way, s), with_range(file, k, start, size))
+                yield record('%s%d-bad-%s' % (name, k, s), with_part(file, k, run(129, 7)))
+                yield record('%s%d-other-%s' % (name, k, s), with_part(file, k, page[1][1 - k]))
+    yield from at_each_charge('strips', laid(STRIP2, kinds=(3, 3)))
+    yield from at_each_charge('tiles', laid(TILE2, kinds=(3, 3), big=True))
+    # decode by a handle with other entries, of a file with other offsets, and of one whose arrays stand elsewhere
+    file, apart = (laid(strips(3, 4, 2, flat), kinds=kinds) for kinds in ((3, 3), (4, 4)))
+    offsets, counts = (array_of(file, which)[1].place for which in (OFFSETS, COUNTS))
+    for tag, field, n in (('offsets+', 'offsets', offsets + 1), ('counts+', 'counts', counts + 1), ('big', 'big', 1),
+                          ('offsets-counts', 'offsets', counts), ('counts-offsets', 'counts', offsets)):
+        yield record(tag, file, to=(field, n), more=(9, 9, 9))
+    first, second = (value_of(file, OFFSETS, k) for k in range(2))
+    turned = with_value(with_value(file, OFFSETS, 0, second), OFFSETS, 1, first)
+    yield record('file-turned', file, other=turned)
+    yield record('file-out', file, other=with_value(file, OFFSETS, 1, 65535))
+    yield record('file-apart', file, other=apart)
+    yield record('file-inline', apart, other=turned)
 
 def brief(field):
     return field.replace('block_', 'b')
@@ -676,6 +758,8 @@ def files():
     return [(name, kind, list(made)) for name, kind, made in (
         ('layouts.bin', 'strict', layouts()),
         ('entries.bin', 'strict', entries()),
+        ('inline.bin', 'strict', inlines()),
+        ('inline_ranges.bin', 'strict', inline_ranges()),
         ('ranges.bin', 'strict', ranges()),
         ('budgets.bin', 'strict', budgets()),
         ('packets.bin', 'strict', packets_refused()),
@@ -734,6 +818,7 @@ VALUES_WRONG = (
     ('values of the field are little-endian', FIELD, "int.from_bytes(array.field[size * k:size * (k + 1)], 'little')"),
     ('values of the field are big-endian', FIELD, "int.from_bytes(array.field[size * k:size * (k + 1)], 'big')"),
     ('values of the field have a byte', FIELD, FIELD + ' % 256'),
+    ('values of the field have 15 bits', FIELD, FIELD + ' % 32768'),
     ('values stand where the count is', FIELD, 'r.number(r.file[array.place + 4 + size * k:][:size])'),
     ('values stand two bytes before the field', FIELD, 'r.number(r.file[array.place + 6 + size * k:][:size])'),
     ('values stand two bytes into the field', FIELD, 'r.number(r.file[array.place + 10 + size * k:][:size])'),
@@ -749,6 +834,8 @@ VALUES_WRONG = (
      IN_FIELD.replace('return', 'r.part(r.number(array.field), 0)\n        return')),
     ('the field of two must be a place inside', IN_FIELD,
      IN_FIELD.replace('return', 'r.part(r.number(array.field) if array.count == 2 else 0, 0)\n        return')),
+    ('the field of two is a place where it lies inside', FITS,
+     'if size * array.count <= 4 and (array.count == 1 or r.number(array.field) > len(r.file)):'),
     ('a value of 0 stands at the place that the field holds', IN_FIELD,
      FITS + '\n        own = array.field[size * k:size * (k + 1)]\n'
      '        return r.number(own if any(own) else r.part(r.number(array.field), size))'),

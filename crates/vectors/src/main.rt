@@ -85,7 +85,7 @@ fn run_strict() {
     run_record_files(
         Kind::Strict(Strict::Reading),
         b"strict/",
-        b"layouts entries ranges budgets packets handles decodes buffers",
+        b"layouts entries inline inline_ranges ranges budgets packets handles decodes buffers",
     );
     run_record_files(Kind::Strict(Strict::Forged), b"strict/", b"forged");
     run_record_files(Kind::Strict(Strict::Bound), b"strict/", b"bounds");
@@ -100,7 +100,7 @@ fn run_patchy() {
     run_record_files(
         Kind::Patchy,
         b"patchy/",
-        b"order rooms entries quality metadata single_first single_last stale whole random",
+        b"order rooms entries inline inline_blocks inline_ranges quality metadata single_first single_last stale whole random",
     );
 }
 
