@@ -21,9 +21,9 @@ from common import FILL, ROOM, TOP, Draw, record_of
 from front import NOTE, SIZES, STRIPS, WIDE, Limits, Reading, Refused, but, limited, patched, picture, tiff
 from leaf import CASE1, literal, packets, run
 from libtiff import file_of, vouched
-from strict import (COUNTS, IN_FIELD, KINDS, LOTS, OFFSETS, ORDERS, PAIRS, STRIP2, STRIP3, TILE2, VALUES_WRONG, coded, drawn, emptied,
-                    flat, headed, inspected, laid, marked, placed, rows, shown, strips, tiles, value, with_base, with_part,
-                    with_range, wrong_parts)
+from strict import (CASE13, COUNTS, IN_FIELD, KINDS, LOTS, OFFSETS, ORDERS, PAIRS, STRIP2, STRIP3, TILE2, VALUES_WRONG, coded,
+                    drawn, emptied, flat, headed, inspected, laid, marked, placed, rows, shown, strips, tiles, value, with_base,
+                    with_part, with_range, wrong_parts)
 
 # What is asked for, the lengths of the three buffers, the file and its map. Of libtiff's pictures, the CRC-32 of the pixels.
 Record = collections.namedtuple('Record', 'tag page limits units output scratch quality file blocks crc', defaults=(None,))
@@ -425,6 +425,8 @@ def packets_bad():
     for name, part in (('1', CASE1), ('2', CASE1 + b'\x00'), ('3', b'\x83' + CASE1[1:]), ('4', CASE1[:-2]), ('4-one', CASE1[:-1]),
                        ('5', CASE1 + b'\x01\x09'), ('6', b'')):
         yield record('mark' + name, marked(part), b'\x01')
+    for s, big in ORDERS:
+        yield record('mark13-' + s, laid(CASE13, big=big, kinds=(3, 3)), b'\x01')
     # every code in one picture, in both orders of segments
     for name, turn in (('up', 1), ('down', -1)):
         at = [300, 320, 512, 340, 360, 530, 380, 400][::turn]

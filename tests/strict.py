@@ -269,6 +269,8 @@ def marked(part):
     """The file of two pixels, with the packets of a marked case."""
     return laid((strips(2, 1, 1)[0], [part]))
 
+CASE13 = strips(2, 2, 1)[0], [CASE1, bytes.fromhex('020101800780038002')]
+
 def layouts():
     # both orders, and arrays of either type: three strips, one, two, and two tiles
     for s, big in ORDERS:
@@ -325,6 +327,8 @@ def layouts():
     yield record('mark4-one-less', marked(CASE1[:-1]))
     yield record('mark5', marked(CASE1 + b'\x01\x09'))
     yield record('mark6', marked(b''))
+    for s, big in ORDERS:
+        yield record('mark13-' + s, laid(CASE13, big=big, kinds=(3, 3)))
     yield record('zero-first', marked(b'\x00' + CASE1))
     yield record('zero-between', marked(CASE1[:4] + b'\x00\x00' + CASE1[4:]))
     yield record('zero-in-row', marked(b'\x01\x07\x00\x01\x07' + CASE1[2:]))
