@@ -1,6 +1,8 @@
 /* Compares the reader with libtiff on pictures that libtiff makes of random shapes and contents: every pixel, every word of the
  * handle and the answer, every unit charged, every quality byte, and every byte of a lent buffer that is to stay or to be zero.
  * Half of the files with lost blocks come by way of the receiver, which must have made of the messages what was lost and sent.
+ * Where a page has two segments, its offsets and counts are often put into the fields of their entries, as two shorts each,
+ * before libtiff reads its file back: it finds them there, and does not write them so itself.
  *
  *     compare [COUNT [SEED]]
  *
@@ -22,7 +24,7 @@
 #define FAILED_FILE "target/compare-failed.tif"
 #define FAILED_MAP "target/compare-failed.map"
 
-enum { MOST_PAGES = 3, TAIL = 64 };
+enum { MOST_PAGES = 3, TAIL = 64, NEAR = 1 << 20, LONG_RUN = 1000 };
 
 /* ---- a picture, what libtiff says of it, and what is charged for it */
 
@@ -31,7 +33,7 @@ struct page {
     uint8_t *pixels;    /* by libtiff */
     uint32_t segments;
     uint64_t *offsets, *counts; /* of each segment's stored bytes, by libtiff */
-    uint64_t directory, next;   /* places in the file */
+    uint64_t directory;         /* its place in the file */
     uint32_t entries;
     uint64_t fees; /* of all segments */
 };
@@ -47,6 +49,7 @@ struct picture {
 /* What a run counts, for its last line. */
 static struct {
     uint64_t pages, pixels, patchy, good, missing, refused, received;
+    uint64_t paired, places, lost_places;
 } sum;
 
 /* ---- saying what differs */
@@ -133,6 +136,14 @@ static void draw(struct dice *dice, const struct shape *shape, int16_t *samples,
         }
 }
 
+/* A picture that two tiles cover, side by side or one below the other. */
+static void cover_with_two(struct dice *dice, struct shape *shape)
+{
+    bool beside = one_in(dice, 2);
+    shape->width = between(dice, 1, shape->block_width) + (beside ? shape->block_width : 0);
+    shape->height = between(dice, 1, shape->block_height) + (beside ? 0 : shape->block_height);
+}
+
 static struct shape some_shape(struct dice *dice)
 {
     struct shape shape;
@@ -154,12 +165,15 @@ static struct shape some_shape(struct dice *dice)
     if (shape.tiled) {
         shape.block_width = 16 * between(dice, 1, one_in(dice, 4) ? 20 : 6);
         shape.block_height = 16 * between(dice, 1, 6);
+        if (one_in(dice, 4))
+            cover_with_two(dice, &shape);
     } else {
         shape.block_width = shape.width;
-        switch (below(dice, 5)) {
+        switch (below(dice, 6)) {
         case 0: shape.block_height = 1; break;
         case 1: shape.block_height = shape.height + below(dice, 3); break;
         case 2: shape.block_height = UINT32_MAX; break;
+        case 3: shape.block_height = (shape.height + 1) / 2 + below(dice, shape.height / 2); break; /* two strips */
         default: shape.block_height = between(dice, 1, shape.height);
         }
     }
@@ -188,42 +202,144 @@ static void write_picture(struct dice *dice, struct picture *picture)
 {
     TIFF *tiff = open_to_write(&picture->file, picture->big_endian);
     for (uint32_t p = 0; p < picture->pages; p++) {
-        struct shape shape = some_shape(dice);
-        int16_t *samples = lend(pixel_bytes(&shape));
-        draw(dice, &shape, samples, INT16_MIN, INT16_MAX);
-        draw(dice, &shape, samples + 1, 0, 20479);
-        draw(dice, &shape, samples + 2, 0, 20479);
+        struct shape *shape = &picture->page[p].shape;
+        int16_t *samples;
+        *shape = some_shape(dice);
+        samples = lend(pixel_bytes(shape));
+        draw(dice, shape, samples, INT16_MIN, INT16_MAX);
+        draw(dice, shape, samples + 1, 0, 20479);
+        draw(dice, shape, samples + 2, 0, 20479);
         set_other_tags(dice, tiff);
-        write_page(tiff, &shape, samples);
+        write_page(tiff, shape, samples);
         free(samples);
     }
     TIFFClose(tiff);
+    for (uint32_t p = 0; p < picture->pages; p++) {
+        picture->page[p].directory = directory_of(&picture->file, p);
+        picture->page[p].entries = (uint32_t)read_number(&picture->file, picture->page[p].directory, 2);
+    }
 }
 
 /* ---- what stands in the file, by its bytes */
 
-static uint64_t word(const struct picture *picture, uint64_t at, uint32_t size)
+static uint32_t offsets_tag(const struct page *page)
 {
-    uint64_t value = 0;
-    if (at + size > picture->file.length)
-        give_up("a file that libtiff made ends early (seed %" PRIu64 ")", picture->seed);
-    for (uint32_t i = 0; i < size; i++)
-        value = value << 8 | picture->file.bytes[picture->big_endian ? at + i : at + size - 1 - i];
-    return value;
+    return page->shape.tiled ? TIFFTAG_TILEOFFSETS : TIFFTAG_STRIPOFFSETS;
 }
 
-/* The place of the i-th value of a tag of a page, which is there, and its size. */
+static uint32_t counts_tag(const struct page *page)
+{
+    return page->shape.tiled ? TIFFTAG_TILEBYTECOUNTS : TIFFTAG_STRIPBYTECOUNTS;
+}
+
+/* The place of the entry of a tag of a page, which is there. */
+static uint64_t entry_place(const struct picture *picture, const struct page *page, uint32_t tag)
+{
+    uint64_t entry = entry_of(&picture->file, page->directory, tag);
+    if (entry == 0)
+        give_up("a file that libtiff made has no tag %u (seed %" PRIu64 ")", tag, picture->seed);
+    return entry;
+}
+
+/* The place of the i-th value of a tag of a page, and its size (rules 2.12 and 2.13). */
 static uint64_t value_place(const struct picture *picture, const struct page *page, uint32_t tag, uint32_t i, uint32_t *size)
 {
-    for (uint32_t n = 0; n < page->entries; n++) {
-        uint64_t entry = page->directory + 2 + 12 * (uint64_t)n;
-        if (word(picture, entry, 2) != tag)
-            continue;
-        *size = word(picture, entry + 2, 2) == 3 ? 2 : 4;
-        return (word(picture, entry + 4, 4) == 1 ? entry + 8 : word(picture, entry + 8, 4)) + (uint64_t)*size * i;
-    }
-    give_up("a file that libtiff made has no tag %u (seed %" PRIu64 ")", tag, picture->seed);
+    const struct memory *file = &picture->file;
+    uint64_t entry = entry_place(picture, page, tag), values = read_number(file, entry + 4, 4);
+    *size = read_number(file, entry + 2, 2) == TIFF_SHORT ? 2 : 4;
+    return (values * *size <= 4 ? entry + 8 : read_number(file, entry + 8, 4)) + (uint64_t)*size * i;
 }
+
+/* ---- pairs: two offsets or two counts of two bytes each, in the field of their entry */
+
+static void scribble(struct dice *dice, uint8_t *bytes, size_t length)
+{
+    for (size_t i = 0; i < length; i++)
+        bytes[i] = (uint8_t)roll(dice);
+}
+
+/* The stored bytes of two segments, which libtiff puts one behind the other, in the other order. So either half of a pair of
+ * offsets may be the smaller one. */
+static void swap_segments(struct picture *picture, const struct page *page)
+{
+    struct memory *file = &picture->file;
+    uint64_t offsets = read_number(file, entry_place(picture, page, offsets_tag(page)) + 8, 4);
+    uint64_t counts = read_number(file, entry_place(picture, page, counts_tag(page)) + 8, 4);
+    uint64_t start = read_number(file, offsets, 4);
+    uint64_t first = read_number(file, counts, 4), second = read_number(file, counts + 4, 4);
+    uint8_t *kept = lend(first);
+    memcpy(kept, file->bytes + start, first);
+    memmove(file->bytes + start, file->bytes + start + first, second);
+    memcpy(file->bytes + start + second, kept, first);
+    write_number(file, offsets, 4, start + second);
+    write_number(file, offsets + 4, 4, start);
+    free(kept);
+}
+
+/* Two values of four bytes become a pair, if they fit. Where they stood other bytes stand then. */
+static void move_to_field(struct dice *dice, struct picture *picture, const struct page *page, uint32_t tag)
+{
+    struct memory *file = &picture->file;
+    uint64_t entry = entry_place(picture, page, tag), array = read_number(file, entry + 8, 4);
+    uint64_t first = read_number(file, array, 4), second = read_number(file, array + 4, 4);
+    if (first > UINT16_MAX || second > UINT16_MAX)
+        return;
+    write_number(file, entry + 2, 2, TIFF_SHORT);
+    write_number(file, entry + 8, 2, first);
+    write_number(file, entry + 10, 2, second);
+    scribble(dice, file->bytes + array, 8);
+}
+
+/* Whether a tag has two values of four bytes, as libtiff writes them. */
+static bool may_be_pair(const struct picture *picture, const struct page *page, uint32_t tag)
+{
+    uint64_t entry = entry_place(picture, page, tag);
+    return read_number(&picture->file, entry + 2, 2) == TIFF_LONG && read_number(&picture->file, entry + 4, 4) == 2;
+}
+
+/* Makes pairs of the offsets, the counts, both or none of a page with two segments. */
+static void make_pairs(struct dice *dice, struct picture *picture, const struct page *page)
+{
+    uint32_t which = below(dice, 4);
+    if (!may_be_pair(picture, page, offsets_tag(page)) || !may_be_pair(picture, page, counts_tag(page)))
+        return;
+    if (one_in(dice, 2))
+        swap_segments(picture, page);
+    if (which & 1)
+        move_to_field(dice, picture, page, offsets_tag(page));
+    if (which & 2)
+        move_to_field(dice, picture, page, counts_tag(page));
+}
+
+/* What the field of a pair would be as a place plays no part. Mostly it would lie outside the file; where it is near, the file is
+ * often made so long that it lies inside, or the first of its bytes do. */
+static void reach_places(struct dice *dice, struct picture *picture, const struct page *page)
+{
+    struct memory *file = &picture->file;
+    uint64_t fields[MOST_PAIRS];
+    uint32_t pairs = paired_fields(file, page->directory, fields);
+    for (uint32_t i = 0; i < pairs; i++) {
+        uint64_t place = read_number(file, fields[i], 4), end = place + between(dice, 1, CHELMESUT_BLOCK);
+        if (place >= NEAR || one_in(dice, 4))
+            continue;
+        while (file->length < end)
+            put(file, roll(dice), end - file->length < 8 ? end - file->length : 8);
+    }
+}
+
+/* Such places that are in the file: how many, and which. */
+static uint32_t places_inside(const struct picture *picture, const struct page *page, uint64_t places[MOST_PAIRS])
+{
+    uint64_t fields[MOST_PAIRS];
+    uint32_t pairs = paired_fields(&picture->file, page->directory, fields), inside = 0;
+    for (uint32_t i = 0; i < pairs; i++) {
+        places[inside] = read_number(&picture->file, fields[i], 4);
+        inside += places[inside] < picture->file.length;
+    }
+    return inside;
+}
+
+/* ---- what libtiff says of it */
 
 static uint32_t rows_in(const struct page *page, uint32_t segment)
 {
@@ -238,7 +354,7 @@ static uint64_t fee_of(const struct page *page, uint32_t segment)
 }
 
 /* Reads the page that libtiff has at hand. */
-static void take_page(TIFF *tiff, struct picture *picture, struct page *page, uint64_t directory)
+static void take_page(TIFF *tiff, struct page *page)
 {
     page->shape = shape_of(tiff);
     page->segments = page->shape.tiled ? TIFFNumberOfTiles(tiff) : TIFFNumberOfStrips(tiff);
@@ -246,9 +362,6 @@ static void take_page(TIFF *tiff, struct picture *picture, struct page *page, ui
         page->shape.block_height = page->shape.height;
     page->pixels = lend(pixel_bytes(&page->shape));
     read_pixels(tiff, &page->shape, page->pixels);
-    page->directory = directory;
-    page->entries = (uint32_t)word(picture, directory, 2);
-    page->next = word(picture, directory + 2 + 12 * (uint64_t)page->entries, 4);
     page->offsets = lend(page->segments * sizeof *page->offsets);
     page->counts = lend(page->segments * sizeof *page->counts);
     page->fees = 0;
@@ -262,20 +375,21 @@ static void take_page(TIFF *tiff, struct picture *picture, struct page *page, ui
 static void make_picture(struct picture *picture, uint64_t seed)
 {
     struct dice dice = {seed};
-    uint64_t directory;
     TIFF *tiff;
     *picture = (struct picture){.seed = seed};
     roll(&dice);
     picture->big_endian = one_in(&dice, 2);
     picture->pages = one_in(&dice, 3) ? between(&dice, 2, MOST_PAGES) : 1;
     write_picture(&dice, picture);
+    for (uint32_t p = 0; p < picture->pages; p++)
+        make_pairs(&dice, picture, &picture->page[p]);
+    for (uint32_t p = 0; p < picture->pages; p++)
+        reach_places(&dice, picture, &picture->page[p]);
     tiff = open_to_read(&picture->file);
-    directory = word(picture, 4, 4);
     for (uint32_t p = 0; p < picture->pages; p++) {
         if (p > 0 && !TIFFReadDirectory(tiff))
             give_up("libtiff does not read its page %u (seed %" PRIu64 ")", p, seed);
-        take_page(tiff, picture, &picture->page[p], directory);
-        directory = picture->page[p].next;
+        take_page(tiff, &picture->page[p]);
     }
     TIFFClose(tiff);
 }
@@ -373,9 +487,7 @@ static bool front_came(const struct picture *picture, uint32_t page, uint64_t *u
 
 static uint8_t code_of(const struct picture *picture, const struct page *page, uint32_t segment)
 {
-    uint32_t offsets = page->shape.tiled ? TIFFTAG_TILEOFFSETS : TIFFTAG_STRIPOFFSETS;
-    uint32_t counts = page->shape.tiled ? TIFFTAG_TILEBYTECOUNTS : TIFFTAG_STRIPBYTECOUNTS;
-    return value_came(picture, page, offsets, segment) && value_came(picture, page, counts, segment) &&
+    return value_came(picture, page, offsets_tag(page), segment) && value_came(picture, page, counts_tag(page), segment) &&
                    came(page->offsets[segment], page->counts[segment])
                ? CHELMESUT_QUALITY_GOOD
                : CHELMESUT_QUALITY_MISSING;
@@ -631,6 +743,15 @@ static void patchy_refused(struct dice *dice, const struct picture *picture, uin
     take_back(&lent);
 }
 
+static void count_places(const struct picture *picture, const struct page *page)
+{
+    uint64_t places[MOST_PAIRS];
+    uint32_t inside = places_inside(picture, page, places);
+    sum.places += inside;
+    for (uint32_t i = 0; i < inside; i++)
+        sum.lost_places += !came(places[i], 1);
+}
+
 /* With the map at hand: the answer that the lost blocks leave, and the same with a unit too few. */
 static void read_patchily(struct dice *dice, const struct picture *picture, const struct limits *limits)
 {
@@ -646,6 +767,7 @@ static void read_patchily(struct dice *dice, const struct picture *picture, cons
         patchy_refused(dice, picture, now.page, limits, front + spare, NONE_SHORT, CHELMESUT_NOT_ARRIVED, spare);
         return;
     }
+    count_places(picture, page);
     codes = lend(page->segments);
     for (uint32_t k = 0; k < page->segments; k++) {
         codes[k] = code_of(picture, page, k);
@@ -679,7 +801,8 @@ static void let_come(uint8_t *map, uint64_t at, uint64_t n)
 static void some_map(struct dice *dice, const struct picture *picture, uint8_t *map, size_t blocks)
 {
     static const uint8_t lost[] = {0, 0, 0, 2, 128, 255};
-    uint32_t rate = 1 + below(dice, one_in(dice, 2) ? 3 : 40), size;
+    uint32_t rate = 1 + below(dice, one_in(dice, 2) ? 3 : 40), size, inside;
+    uint64_t places[MOST_PAIRS];
     const struct page *page = &picture->page[now.page];
     memset(map, 1, blocks);
     if (one_in(dice, 3))
@@ -688,6 +811,10 @@ static void some_map(struct dice *dice, const struct picture *picture, uint8_t *
         for (size_t block = 0; block < blocks; block++)
             if (one_in(dice, rate))
                 map[block] = lost[below(dice, sizeof lost)];
+    inside = places_inside(picture, page, places);
+    for (uint32_t i = 0; i < inside; i++)
+        if (one_in(dice, 2))
+            map[places[i] / CHELMESUT_BLOCK] = lost[below(dice, sizeof lost)];
     if (one_in(dice, 5))
         return;
     let_come(map, 0, 8);
@@ -699,14 +826,20 @@ static void some_map(struct dice *dice, const struct picture *picture, uint8_t *
     }
 }
 
+static size_t size_of_block(const struct memory *file, size_t block)
+{
+    size_t rest = file->length - block * CHELMESUT_BLOCK;
+    return rest < CHELMESUT_BLOCK ? rest : CHELMESUT_BLOCK;
+}
+
 /* A copy of the file in which each lost block holds other bytes. */
 static struct memory with_stale_blocks(struct dice *dice, const struct memory *file, const uint8_t *map)
 {
     struct memory stale = {0};
     append(&stale, file->bytes, file->length);
-    for (size_t i = 0; i < stale.length; i++)
-        if (map[i / CHELMESUT_BLOCK] != 1)
-            stale.bytes[i] = (uint8_t)roll(dice);
+    for (size_t block = 0; block < blocks_of(file); block++)
+        if (map[block] != 1)
+            scribble(dice, stale.bytes + block * CHELMESUT_BLOCK, size_of_block(file, block));
     return stale;
 }
 
@@ -755,12 +888,6 @@ static void replay(struct dice *dice, struct bus *bus)
          chelmesut_replay(bus->trace.bytes, bus->trace.length, bus->file.bytes, bus->file.length, bus->map.bytes,
                           bus->map.length, bus->words),
          now.number);
-}
-
-static size_t size_of_block(const struct memory *file, size_t block)
-{
-    size_t rest = file->length - block * CHELMESUT_BLOCK;
-    return rest < CHELMESUT_BLOCK ? rest : CHELMESUT_BLOCK;
 }
 
 static void send_own(struct bus *bus, const struct memory *file, size_t block)
@@ -906,6 +1033,7 @@ static void compare_picture(uint64_t seed)
 {
     struct dice dice = {~seed};
     struct picture picture;
+    uint64_t fields[MOST_PAIRS];
     make_picture(&picture, seed);
     now.picture = &picture;
     now.file = &picture.file;
@@ -917,6 +1045,7 @@ static void compare_picture(uint64_t seed)
         read_strictly(&dice, &picture, &limits);
         read_every_map(&dice, &picture, &limits);
         sum.pages++;
+        sum.paired += paired_fields(&picture.file, picture.page[p].directory, fields) > 0;
     }
     now.map = picture.file.bytes;
     ask_for_too_much(&dice, &picture);
@@ -965,10 +1094,15 @@ int main(int arguments, char **argument)
         compare_picture(seed + i);
         show_progress(i + 1, count);
     }
+    if (count >= LONG_RUN && sum.lost_places == 0)
+        give_up("compare: no page had inline shorts whose field, as a place, was lost: this run shows less than it should");
     printf("compare: no difference from libtiff %s: %" PRIu64 " pictures from seed %" PRIu64 ", %" PRIu64 " pages, %" PRIu64
            " pixels; %" PRIu64 " patchy calls, in which %" PRIu64 " segments were good and %" PRIu64 " lost, and %" PRIu64
-           " calls lacked what comes before the segments; %" PRIu64 " files with lost blocks came by way of the receiver\n",
+           " calls lacked what comes before the segments; %" PRIu64
+           " files with lost blocks came by way of the receiver; %" PRIu64
+           " pages with inline shorts, whose field was as a place inside the file in %" PRIu64
+           " patchy calls, and lost in %" PRIu64 "\n",
            libtiff_version(), count, seed, sum.pages, sum.pixels, sum.patchy, sum.good, sum.missing, sum.refused,
-           sum.received);
+           sum.received, sum.paired, sum.places, sum.lost_places);
     return 0;
 }

@@ -1,4 +1,5 @@
-/* Files in memory, and LogLuv pictures that libtiff writes into them and reads from them (see pictures.h). */
+/* Files in memory, LogLuv pictures that libtiff writes into them and reads from them, and what stands in them by their bytes (see
+ * pictures.h). */
 #include "pictures.h"
 #include <stdarg.h>
 #include <stdio.h>
@@ -344,4 +345,56 @@ void read_pixels(TIFF *tiff, const struct shape *shape, uint8_t *pixels)
         read_tiles(tiff, shape, pixels);
     else
         read_strips(tiff, shape, pixels);
+}
+
+/* A byte of a number, the lowest being byte 0. */
+static uint8_t *byte_of(const struct memory *file, uint64_t at, uint32_t size, uint32_t i)
+{
+    if (at + size > file->length)
+        give_up("a TIFF file of %zu bytes ends before a number of it", file->length);
+    return file->bytes + (file->bytes[0] == 'M' ? at + size - 1 - i : at + i);
+}
+
+uint64_t read_number(const struct memory *file, uint64_t at, uint32_t size)
+{
+    uint64_t value = 0;
+    for (uint32_t i = 0; i < size; i++)
+        value |= (uint64_t)*byte_of(file, at, size, i) << (8 * i);
+    return value;
+}
+
+void write_number(struct memory *file, uint64_t at, uint32_t size, uint64_t value)
+{
+    for (uint32_t i = 0; i < size; i++)
+        *byte_of(file, at, size, i) = (uint8_t)(value >> (8 * i));
+}
+
+uint64_t directory_of(const struct memory *file, uint64_t page)
+{
+    uint64_t directory = read_number(file, 4, 4);
+    for (; page > 0; page--)
+        directory = read_number(file, directory + 2 + 12 * read_number(file, directory, 2), 4);
+    return directory;
+}
+
+uint64_t entry_of(const struct memory *file, uint64_t directory, uint32_t tag)
+{
+    uint64_t end = directory + 2 + 12 * read_number(file, directory, 2);
+    for (uint64_t entry = directory + 2; entry < end; entry += 12)
+        if (read_number(file, entry, 2) == tag)
+            return entry;
+    return 0;
+}
+
+uint32_t paired_fields(const struct memory *file, uint64_t directory, uint64_t fields[MOST_PAIRS])
+{
+    static const uint16_t tags[MOST_PAIRS] = {TIFFTAG_STRIPOFFSETS, TIFFTAG_STRIPBYTECOUNTS, TIFFTAG_TILEOFFSETS,
+                                              TIFFTAG_TILEBYTECOUNTS};
+    uint32_t pairs = 0;
+    for (uint32_t t = 0; t < MOST_PAIRS; t++) {
+        uint64_t entry = entry_of(file, directory, tags[t]);
+        if (entry && read_number(file, entry + 2, 2) == TIFF_SHORT && read_number(file, entry + 4, 4) == 2)
+            fields[pairs++] = entry + 8;
+    }
+    return pairs;
 }

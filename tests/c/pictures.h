@@ -1,5 +1,6 @@
 /* What the programs of this folder share: files in memory, LogLuv pictures that libtiff writes into them and reads from
- * them, traces of their blocks, random numbers that are the same in every run, and the limits of a call. */
+ * them, numbers and entries of a TIFF file by its bytes, traces of its blocks, random numbers that are the same in every run,
+ * and the limits of a call. */
 #ifndef PICTURES_H
 #define PICTURES_H
 #include "../../include/chelmesut.h"
@@ -62,6 +63,19 @@ void write_page(TIFF *tiff, const struct shape *shape, const int16_t *samples);
 /* What libtiff says of the page that is at hand, and its pixels in 16-bit samples. */
 struct shape shape_of(TIFF *tiff);
 void read_pixels(TIFF *tiff, const struct shape *shape, uint8_t *pixels);
+
+/* What stands in a TIFF file, in its own byte order. It is there, else the program gives up. */
+uint64_t read_number(const struct memory *file, uint64_t at, uint32_t size);
+void write_number(struct memory *file, uint64_t at, uint32_t size, uint64_t value);
+
+/* Places in such a file: a page's directory, and the entry of a tag in a directory, or 0 where there is none. */
+uint64_t directory_of(const struct memory *file, uint64_t page);
+uint64_t entry_of(const struct memory *file, uint64_t directory, uint32_t tag);
+
+/* The fields of a directory in which two offsets or two counts stand, as they do if they are of type 3 (rule 2.12): how many,
+ * and their places. */
+enum { MOST_PAIRS = 4 };
+uint32_t paired_fields(const struct memory *file, uint64_t directory, uint64_t fields[MOST_PAIRS]);
 
 /* The limits of a call, in the order of the C face. */
 struct limits {
