@@ -57,6 +57,9 @@ enum fault {
     DECODE_CHARGES_NOTHING,
     DECODE_TAKES_FORGED_HANDLE,
     DECODE_OUTPUT_BEFORE_BUDGET,
+    STRICT_PAIR_EXCHANGED_IN_BIG_ENDIAN,
+    STRICT_PAIR_TAKEN_FROM_PLACE,
+    STRICT_PAIR_OUTSIDE_AT_PLACE,
     PATCHY_BIT_OF_PIXEL,
     PATCHY_PREVIOUS_PIXELS,
     PATCHY_LOST_MARKED_GOOD,
@@ -70,6 +73,9 @@ enum fault {
     PATCHY_BYTE_AFTER_OUTPUT,
     PATCHY_ANSWER_ON_REFUSAL,
     PATCHY_WRONG_MAP_TAKEN,
+    PATCHY_PAIR_SECOND_IS_FIRST,
+    PATCHY_PAIR_OUTSIDE_AT_PLACE,
+    PATCHY_PAIR_LOST_AT_PLACE,
     START_LEAVES_MARKS,
     START_CLEARS_FILE,
     BLOCK_AGAIN_PASSED_OVER,
@@ -95,10 +101,70 @@ static uint8_t *copy_of(const uint8_t *bytes, size_t length)
     return memcpy(lend(length), bytes, length);
 }
 
+/* ---- pairs: two offsets or two counts in a field, which by mistake is taken for the number of their place */
+
+static void misread_pair(struct memory *file, uint64_t field)
+{
+    uint64_t first = read_number(file, field, 2), second = read_number(file, field + 2, 2);
+    uint64_t place = read_number(file, field, 4);
+    if (fault == STRICT_PAIR_EXCHANGED_IN_BIG_ENDIAN && file->bytes[0] == 'M') {
+        write_number(file, field, 2, second);
+        write_number(file, field + 2, 2, first);
+    }
+    if (fault == STRICT_PAIR_TAKEN_FROM_PLACE && place + 4 <= file->length)
+        memcpy(file->bytes + field, file->bytes + place, 4);
+    if (fault == PATCHY_PAIR_SECOND_IS_FIRST)
+        write_number(file, field + 2, 2, first);
+}
+
+/* A copy of the file with the pairs of a page as they are misread. The page's directory came. */
+static struct memory with_misread_pairs(const uint8_t *file, size_t file_len, uint64_t page)
+{
+    struct memory copy = {0};
+    uint64_t fields[MOST_PAIRS];
+    uint32_t pairs;
+    append(&copy, file, file_len);
+    pairs = paired_fields(&copy, directory_of(&copy, page), fields);
+    for (uint32_t i = 0; i < pairs; i++)
+        misread_pair(&copy, fields[i]);
+    return copy;
+}
+
+/* Whether a page, whose directory came, has a pair whose place would have this quality. */
+static bool has_pair_at(const uint8_t *file, size_t file_len, const uint8_t *map, size_t map_len, uint64_t page, int quality)
+{
+    const struct memory lent = {.bytes = (uint8_t *)file, .length = file_len}; /* it is only read */
+    uint64_t fields[MOST_PAIRS];
+    uint32_t pairs = paired_fields(&lent, directory_of(&lent, page), fields);
+    for (uint32_t i = 0; i < pairs; i++) {
+        uint64_t place = read_number(&lent, fields[i], 4);
+        bool outside = place >= file_len, lost = !outside && map_len > 0 && map[place / CHELMESUT_BLOCK] != 1;
+        if (quality == CHELMESUT_QUALITY_OUTSIDE ? outside : lost)
+            return true;
+    }
+    return false;
+}
+
+/* ---- strict reading */
+
+static bool strict_misreads_pairs(void)
+{
+    return fault == STRICT_PAIR_EXCHANGED_IN_BIG_ENDIAN || fault == STRICT_PAIR_TAKEN_FROM_PLACE;
+}
+
 uint64_t __wrap_chelmesut_inspect(const uint8_t *file, size_t file_len, uint64_t page, CHELMESUT_LIMITS, uint64_t *budget,
                                   uint64_t handle[17])
 {
-    uint64_t number = __real_chelmesut_inspect(file, file_len, page, LIMIT_WORDS, budget, handle);
+    uint64_t granted = *budget, number = __real_chelmesut_inspect(file, file_len, page, LIMIT_WORDS, budget, handle);
+    if (number == 0 && strict_misreads_pairs()) {
+        struct memory seen = with_misread_pairs(file, file_len, page);
+        *budget = granted;
+        number = __real_chelmesut_inspect(seen.bytes, seen.length, page, LIMIT_WORDS, budget, handle);
+        drop(&seen);
+    }
+    if (fault == STRICT_PAIR_OUTSIDE_AT_PLACE && number == 0 &&
+        has_pair_at(file, file_len, NULL, 0, page, CHELMESUT_QUALITY_OUTSIDE))
+        number = CHELMESUT_TRUNCATED;
     if (fault == HANDLE_OF_PREVIOUS_PAGE && number == 0 && page > 0)
         handle[CHELMESUT_PAGE_INDEX]--;
     if (fault == HANDLE_WORK_TOO_SMALL && number == 0)
@@ -115,11 +181,17 @@ uint64_t __wrap_chelmesut_decode(const uint8_t *file, size_t file_len, uint64_t 
                                  uint8_t *scratch, size_t scratch_len)
 {
     uint64_t before = *budget, all = UINT64_MAX, own[CHELMESUT_HANDLE_WORDS], number;
+    struct memory seen = {0};
     memcpy(own, handle, sizeof own);
     if (fault == DECODE_TAKES_FORGED_HANDLE)
         __real_chelmesut_inspect(file, file_len, page, LIMIT_WORDS, &all, own);
+    if (strict_misreads_pairs()) {
+        seen = with_misread_pairs(file, file_len, page);
+        file = seen.bytes;
+    }
     number =
         __real_chelmesut_decode(file, file_len, page, LIMIT_WORDS, own, budget, output, output_len, scratch, scratch_len);
+    drop(&seen);
     if (fault == DECODE_OUTPUT_BEFORE_BUDGET && number == CHELMESUT_BUDGET)
         output[0] ^= 1;
     if (number != 0)
@@ -137,6 +209,8 @@ uint64_t __wrap_chelmesut_decode(const uint8_t *file, size_t file_len, uint64_t 
     return number;
 }
 
+/* ---- patchy reading */
+
 /* The map as a reader with the mistake would see it. */
 static void misread(uint8_t *map, size_t map_len)
 {
@@ -147,6 +221,17 @@ static void misread(uint8_t *map, size_t map_len)
             map[i - 1] = 1;
             return;
         }
+}
+
+/* The codes of two segments whose pair is asked for at its place. */
+static void mark_pairs(const uint8_t *file, size_t file_len, const uint8_t *map, size_t map_len, uint64_t page,
+                       uint8_t *quality)
+{
+    if (fault == PATCHY_PAIR_OUTSIDE_AT_PLACE &&
+        has_pair_at(file, file_len, map, map_len, page, CHELMESUT_QUALITY_OUTSIDE))
+        memset(quality, CHELMESUT_QUALITY_OUTSIDE, 2);
+    if (fault == PATCHY_PAIR_LOST_AT_PLACE && has_pair_at(file, file_len, map, map_len, page, CHELMESUT_QUALITY_MISSING))
+        memset(quality, CHELMESUT_QUALITY_MISSING, 2);
 }
 
 /* The first pixel of each lost segment as it was before. */
@@ -191,15 +276,23 @@ uint64_t __wrap_chelmesut_read_patchy(const uint8_t *file, size_t file_len, cons
                                       uint64_t answer[5])
 {
     uint8_t *seen = copy_of(map, map_len), *before = copy_of(output, output_len), *marks = copy_of(quality, quality_len);
-    uint64_t number;
+    uint64_t granted = *budget, number;
     misread(seen, map_len);
     if (fault == PATCHY_WRONG_MAP_TAKEN && map_len > (file_len + CHELMESUT_BLOCK - 1) / CHELMESUT_BLOCK)
         map_len = 0;
     number = __real_chelmesut_read_patchy(file, file_len, seen, map_len, page, LIMIT_WORDS, budget, output, output_len,
                                           scratch, scratch_len, quality, quality_len, answer);
-    if (number == 0)
+    if (number == 0 && fault == PATCHY_PAIR_SECOND_IS_FIRST) {
+        struct memory copy = with_misread_pairs(file, file_len, page);
+        *budget = granted;
+        number = __real_chelmesut_read_patchy(copy.bytes, copy.length, seen, map_len, page, LIMIT_WORDS, budget, output,
+                                              output_len, scratch, scratch_len, quality, quality_len, answer);
+        drop(&copy);
+    }
+    if (number == 0) {
+        mark_pairs(file, file_len, map, map_len, page, quality);
         spoil_picture(answer, budget, before, output, output_len, scratch, quality, quality_len);
-    else if (fault == PATCHY_ANSWER_ON_REFUSAL)
+    } else if (fault == PATCHY_ANSWER_ON_REFUSAL)
         answer[CHELMESUT_A_WIDTH] = 0;
     else if (fault == PATCHY_QUALITY_STAYS_ON_REFUSAL)
         memcpy(quality, marks, quality_len);
@@ -208,6 +301,8 @@ uint64_t __wrap_chelmesut_read_patchy(const uint8_t *file, size_t file_len, cons
     free(marks);
     return number;
 }
+
+/* ---- receiving */
 
 uint64_t __wrap_chelmesut_receive_start(uint8_t *file, size_t file_len, uint8_t *map, size_t map_len, uint64_t receiver[2],
                                         uint64_t length)
