@@ -1,6 +1,6 @@
 //! Whole TIFF files for the tests, in either byte order, and what reading them is charged.
 
-use chelmesut::{ByteOrder, Limits};
+use chelmesut::{ByteOrder, Limits, BLOCK_LEN};
 
 pub const BOTH: [ByteOrder; 2] = [ByteOrder::Little, ByteOrder::Big];
 
@@ -12,7 +12,7 @@ pub const PLENTY: u64 = 1_000_000;
 
 /// Limits that no file here reaches.
 pub const WIDE: Limits = Limits {
-    max_input: 1 << 20,
+    max_input: 1 << 24,
     max_output: 1 << 20,
     max_dimension: 1 << 14,
     max_directories: 4,
@@ -26,12 +26,37 @@ pub const CASE_1: [u8; 8] = [0x80, 0x07, 0x80, 0x01, 0x80, 0x02, 0x80, 0x03];
 /// One pixel of rule 10.1.
 pub const PIXEL_1: [u8; 6] = [0x01, 0x07, 0xC7, 0x00, 0x17, 0x01];
 
-/// The entries of a directory here, and what a directory charges.
+/// The entries of a directory of strips here, and what it charges.
 pub const ENTRIES: u64 = 10;
 pub const DIRECTORY: u64 = ENTRIES + 1;
 
 /// What the profile charges.
 pub const PROFILE: u64 = 128;
+
+/// How a picture is cut into segments.
+enum Cut {
+    Strips { rows: u16 },
+    Tiles { width: u16, height: u16 },
+}
+
+/// The segments' offsets or their counts, as an entry has them (rules 2.12 and 2.13).
+enum Values {
+    /// A single one of four bytes, in the field.
+    Long(usize),
+    /// Two of two bytes, in the field.
+    Shorts([usize; 2]),
+    /// So many of four bytes, from a place on.
+    LongsAt(usize, usize),
+}
+
+/// The directory of a picture.
+struct Directory {
+    width: u16,
+    height: u16,
+    cut: Cut,
+    offsets: Values,
+    counts: Values,
+}
 
 /// Bytes of a file whose numbers are in an order.
 struct Bytes {
@@ -40,6 +65,21 @@ struct Bytes {
 }
 
 impl Bytes {
+    /// A header, with the place of the first directory.
+    fn new(order: ByteOrder, directory: usize) -> Bytes {
+        let mut file = Bytes {
+            order,
+            bytes: Vec::new(),
+        };
+        file.bytes.extend(match order {
+            ByteOrder::Little => *b"II",
+            ByteOrder::Big => *b"MM",
+        });
+        file.put2(42);
+        file.put4(directory as u32);
+        file
+    }
+
     fn put2(&mut self, value: u16) {
         match self.order {
             ByteOrder::Little => self.bytes.extend(value.to_le_bytes()),
@@ -71,6 +111,56 @@ impl Bytes {
         self.put2(0);
     }
 
+    fn entry_of(&mut self, tag: u16, values: &Values) {
+        match *values {
+            Values::Long(value) => self.entry4(tag, 4, 1, value),
+            Values::LongsAt(count, place) => self.entry4(tag, 4, count, place),
+            Values::Shorts(values) => {
+                self.put2(tag);
+                self.put2(3);
+                self.put4(2);
+                for value in values {
+                    self.put2(value as u16);
+                }
+            }
+        }
+    }
+
+    /// A directory, and behind it the arrays of three, bits and formats.
+    fn directory(&mut self, of: &Directory) {
+        let entries = match of.cut {
+            Cut::Strips { .. } => ENTRIES,
+            Cut::Tiles { .. } => ENTRIES + 1,
+        };
+        let arrays = self.bytes.len() + 2 + 12 * entries as usize + 4;
+        self.put2(entries as u16);
+        self.entry2(256, of.width);
+        self.entry2(257, of.height);
+        self.entry4(258, 3, 3, arrays);
+        self.entry2(259, 34676);
+        self.entry2(262, 32845);
+        match of.cut {
+            Cut::Strips { rows } => {
+                self.entry_of(273, &of.offsets);
+                self.entry2(277, 3);
+                self.entry2(278, rows);
+                self.entry_of(279, &of.counts);
+            }
+            Cut::Tiles { width, height } => {
+                self.entry2(277, 3);
+                self.entry2(322, width);
+                self.entry2(323, height);
+                self.entry_of(324, &of.offsets);
+                self.entry_of(325, &of.counts);
+            }
+        }
+        self.entry4(339, 3, 3, arrays + 6);
+        self.put4(0);
+        for value in [16, 16, 16, 2, 2, 2] {
+            self.put2(value);
+        }
+    }
+
     fn pad_to(&mut self, multiple: usize) {
         let len = self.bytes.len().next_multiple_of(multiple);
         self.bytes.resize(len, 0);
@@ -91,43 +181,28 @@ impl Picture<'_> {
     /// The file: header, directory, arrays, then the strips.
     pub fn file(&self) -> Vec<u8> {
         let count = self.strips.len();
-        let mut file = Bytes {
-            order: self.order,
-            bytes: Vec::new(),
-        };
-        file.bytes.extend(match self.order {
-            ByteOrder::Little => *b"II",
-            ByteOrder::Big => *b"MM",
-        });
-        file.put2(42);
-        file.put4(8);
-        let arrays = 8 + 2 + 12 * ENTRIES as usize + 4;
-        let (bits, formats) = (arrays, arrays + 6);
-        let (offsets, counts) = (arrays + 12, arrays + 12 + 4 * count);
+        let offsets = 8 + 2 + 12 * ENTRIES as usize + 4 + 12;
+        let counts = offsets + 4 * count;
         let mut places = Vec::new();
         let mut place = (counts + 4 * count).next_multiple_of(self.align);
         for strip in self.strips {
             places.push(place);
             place = (place + strip.len()).next_multiple_of(self.align);
         }
-        // A single value sits in the entry itself.
-        let single = count == 1;
-        file.put2(ENTRIES as u16);
-        file.entry2(256, self.width);
-        file.entry2(257, self.height);
-        file.entry4(258, 3, 3, bits);
-        file.entry2(259, 34676);
-        file.entry2(262, 32845);
-        file.entry4(273, 4, count, if single { places[0] } else { offsets });
-        file.entry2(277, 3);
-        file.entry2(278, self.rows_per_strip);
-        let length = self.strips[0].len();
-        file.entry4(279, 4, count, if single { length } else { counts });
-        file.entry4(339, 3, 3, formats);
-        file.put4(0);
-        for value in [16, 16, 16, 2, 2, 2] {
-            file.put2(value);
-        }
+        let values = |first, array| match count {
+            1 => Values::Long(first),
+            _ => Values::LongsAt(count, array),
+        };
+        let mut file = Bytes::new(self.order, 8);
+        file.directory(&Directory {
+            width: self.width,
+            height: self.height,
+            cut: Cut::Strips {
+                rows: self.rows_per_strip,
+            },
+            offsets: values(places[0], offsets),
+            counts: values(self.strips[0].len(), counts),
+        });
         for place in &places {
             file.put4(*place as u32);
         }
@@ -137,6 +212,113 @@ impl Picture<'_> {
         for strip in self.strips {
             file.pad_to(self.align);
             file.bytes.extend(strip);
+        }
+        file.bytes
+    }
+}
+
+/// A picture of two segments, one above the other. Its offsets and counts stand in the fields of
+/// their entries or in arrays. Blocks 0 and 1 have the segments, behind the header and alone; block
+/// 2 has the directory, and block 3 the arrays.
+pub struct Pair {
+    pub order: ByteOrder,
+    pub tiled: bool,
+    pub inline_offsets: bool,
+    pub inline_counts: bool,
+    /// What the file says of the segments' places.
+    pub offsets: [usize; 2],
+    pub stored: [Vec<u8>; 2],
+}
+
+impl Pair {
+    pub const WIDTH: u16 = 16;
+
+    pub fn new(order: ByteOrder, tiled: bool, inline_offsets: bool, inline_counts: bool) -> Pair {
+        let mut pair = Pair {
+            order,
+            tiled,
+            inline_offsets,
+            inline_counts,
+            offsets: [BLOCK_LEN; 2],
+            stored: [Vec::new(), Vec::new()],
+        };
+        let segment = |bytes| flat_strip(Pair::WIDTH as u8, pair.rows() as usize, bytes);
+        pair.stored = [segment([7, 1, 2, 3]), segment([8, 9, 0, 255])];
+        let near = pair.near();
+        pair.offsets[near] = 8;
+        // An empty literal, so that the counts differ.
+        pair.stored[1 - near].push(0);
+        pair
+    }
+
+    /// The segment in block 0: the one whose offset and count are the higher halves of the fields.
+    pub fn near(&self) -> usize {
+        match self.order {
+            ByteOrder::Little => 1,
+            ByteOrder::Big => 0,
+        }
+    }
+
+    /// The rows of a segment.
+    pub fn rows(&self) -> u16 {
+        if self.tiled {
+            16
+        } else {
+            1
+        }
+    }
+
+    fn counts(&self) -> [usize; 2] {
+        [self.stored[0].len(), self.stored[1].len()]
+    }
+
+    /// What the fields with two values would be as places.
+    pub fn places(&self) -> Vec<usize> {
+        let near = self.near();
+        let place = |values: [usize; 2]| 65536 * values[near] + values[1 - near];
+        let mut places = Vec::new();
+        if self.inline_offsets {
+            places.push(place(self.offsets));
+        }
+        if self.inline_counts {
+            places.push(place(self.counts()));
+        }
+        places
+    }
+
+    pub fn file(&self) -> Vec<u8> {
+        let arrays = 3 * BLOCK_LEN;
+        let (width, rows) = (Pair::WIDTH, self.rows());
+        let values = |inline, pair, place| match inline {
+            true => Values::Shorts(pair),
+            false => Values::LongsAt(2, place),
+        };
+        let mut file = Bytes::new(self.order, 2 * BLOCK_LEN);
+        for segment in [self.near(), 1 - self.near()] {
+            file.bytes.extend(&self.stored[segment]);
+            file.pad_to(BLOCK_LEN);
+        }
+        file.directory(&Directory {
+            width,
+            height: 2 * rows,
+            cut: match self.tiled {
+                true => Cut::Tiles {
+                    width,
+                    height: rows,
+                },
+                false => Cut::Strips { rows },
+            },
+            offsets: values(self.inline_offsets, self.offsets, arrays),
+            counts: values(self.inline_counts, self.counts(), arrays + 8),
+        });
+        file.pad_to(BLOCK_LEN);
+        for (inline, pair) in [
+            (self.inline_offsets, self.offsets),
+            (self.inline_counts, self.counts()),
+        ] {
+            for value in pair {
+                file.put4(if inline { u32::MAX } else { value as u32 });
+            }
         }
         file.bytes
     }

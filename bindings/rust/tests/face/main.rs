@@ -3,6 +3,7 @@
 
 mod camera;
 mod files;
+mod inline;
 mod limits;
 mod patchy;
 mod predictors;

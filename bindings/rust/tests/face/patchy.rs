@@ -16,7 +16,7 @@ const SCRATCH: usize = (10 * WIDTH * ROWS) as usize;
 const AFTER: usize = 5;
 
 /// The answer in the order of rule 8.9.
-fn numbers(sizes: Sizes) -> [u64; 5] {
+pub fn numbers(sizes: Sizes) -> [u64; 5] {
     [
         sizes.width,
         sizes.height,
@@ -56,7 +56,7 @@ fn five(order: ByteOrder) -> Vec<u8> {
     picture(order, &strips())
 }
 
-fn whole_map(file: &[u8]) -> Vec<u8> {
+pub fn whole_map(file: &[u8]) -> Vec<u8> {
     vec![1; file.len().div_ceil(BLOCK_LEN)]
 }
 
@@ -72,27 +72,27 @@ fn strip_fee(strip: usize) -> u64 {
 
 /// Everything that a reading leaves.
 #[derive(Clone, Debug, PartialEq)]
-struct Left {
-    result: Result<Sizes, Refusal>,
-    charged: u64,
-    output: Vec<u8>,
-    scratch: Vec<u8>,
-    quality: Vec<u8>,
+pub struct Left {
+    pub result: Result<Sizes, Refusal>,
+    pub charged: u64,
+    pub output: Vec<u8>,
+    pub scratch: Vec<u8>,
+    pub quality: Vec<u8>,
 }
 
-struct Call<'a> {
-    file: &'a [u8],
-    map: &'a [u8],
-    page: u64,
-    limits: Limits,
-    granted: u64,
-    output_len: usize,
-    scratch_len: usize,
-    quality_len: usize,
+pub struct Call<'a> {
+    pub file: &'a [u8],
+    pub map: &'a [u8],
+    pub page: u64,
+    pub limits: Limits,
+    pub granted: u64,
+    pub output_len: usize,
+    pub scratch_len: usize,
+    pub quality_len: usize,
 }
 
 impl<'a> Call<'a> {
-    fn of(file: &'a [u8], map: &'a [u8]) -> Call<'a> {
+    pub fn of(file: &'a [u8], map: &'a [u8]) -> Call<'a> {
         Call {
             file,
             map,
@@ -105,7 +105,7 @@ impl<'a> Call<'a> {
         }
     }
 
-    fn read(&self) -> Left {
+    pub fn read(&self) -> Left {
         let mut budget = Budget {
             remaining: self.granted,
         };
@@ -142,7 +142,7 @@ impl<'a> Call<'a> {
 }
 
 /// What strict reading makes of the file, and what it charged for inspection.
-fn strict(file: &[u8]) -> (Vec<u8>, u64) {
+pub fn strict(file: &[u8]) -> (Vec<u8>, u64) {
     let mut budget = Budget { remaining: PLENTY };
     let handle = inspect(file, 0, &WIDE, &mut budget).unwrap();
     let charged = PLENTY - budget.remaining;
