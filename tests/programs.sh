@@ -51,27 +51,40 @@ short() { byte $(($1 % 256)) && byte $(($1 / 256)); }
 long() { short $(($1 % 65536)) && short $(($1 / 65536)); }
 bytes() { head -c "$1" /dev/zero | tr '\0' "\\$(printf %03o "$2")"; }
 
-# ---- a picture of the tests' own
+# ---- pictures of the tests' own
 entry() { short "$1" && short "$2" && long "$3" && long "$4"; }
+pair() { short "$1" && short 3 && long 2 && short "$2" && short "$3"; } # two values of two bytes, which stand in the field
 
-# One pixel wide, 130 strips of one row: the directory at 8, then two arrays of three, the offsets at 146, the counts at 406, and
-# from 666 on the packets of two rows, of which the second has a negative L.
-tall() {
+# A picture one pixel wide in strips of one row, up to byte 146: the directory at 8, then two arrays of three.
+front() { # height, the entry of the offsets, the entry of the counts
     printf 'II*\000' && long 8
     short 10
     entry 256 3 1 1
-    entry 257 3 1 130
+    entry 257 3 1 "$1"
     entry 258 3 3 134
     entry 259 3 1 34676
     entry 262 3 1 32845
-    entry 273 3 130 146
+    $2
     entry 277 3 1 3
     entry 278 3 1 1
-    entry 279 3 130 406
+    $3
     entry 339 3 3 140
     long 0
     short 16 && short 16 && short 16
     short 2 && short 2 && short 2
+}
+
+# Two strips, with their offsets and counts in the entries: the first is in block 0, the second is the whole of block 1.
+two() {
+    front 2 'pair 273 146 512' 'pair 279 8 8'
+    printf '\001\100\001\200\001\120\001\140'
+    bytes 358 0
+    printf '\001\120\001\200\001\120\001\140'
+}
+
+# 130 strips: the offsets at 146, the counts at 406, and from 666 on the packets of two rows, of which the second has a negative L.
+tall() {
+    front 130 'entry 273 3 130 146' 'entry 279 3 130 406'
     k=0
     while [ "$k" -lt 130 ]; do
         case $k in

@@ -147,6 +147,14 @@ byte 1 >one.map
 { cat tall.trace && start 512 && cat first second; } >trace
 { told trace 5 0 1 0 "$whole" && shown short.tif one.map; } >said
 prints 'a second start that is shorter' trace <said
+two >two.tif
+start 520 >trace
+of two.tif 0 >>trace
+{ told trace 2 0 0 0 "$whole" && shown two.tif first.map; } >said
+prints 'a picture with offsets and counts in its entries, and one of its blocks' trace <said
+of two.tif 1 >>trace
+{ told trace 3 0 0 0 "$whole" && shown two.tif both.map; } >said
+prints 'its other block too' trace <said
 { start 0 && zeros 0 0; } >trace
 { told trace 1 0 1 0 "$whole" && echo '  picture   0 bytes in 0 blocks' && "$strips" empty | tail -n +2; } >said
 prints 'a picture of no bytes' trace <said

@@ -6,6 +6,7 @@ program=strips
 
 cp "$root/crates/strips/data/camera.tif" "$root/crates/strips/data/one-block-lost.map" .
 tall >tall.tif
+two >two.tif
 bytes 85 0 >all-lost.map
 bytes 84 1 >short.map
 bytes 5000 1 >long.map
@@ -203,6 +204,33 @@ tall.tif
         0   outside the file (3)
         0   packets not accepted (4)
   charged   269 units
+END
+prints 'two offsets and two counts of two bytes, in the entries' two.tif both-came.map two.pgm <<'END'
+two.tif
+  pixels    1 x 2
+  segments  2, each at most 1 x 1
+  blocks    2, of which 0 did not come
+  quality   ..
+        2   good (1, a dot)
+        0   did not come (2)
+        0   outside the file (3)
+        0   packets not accepted (4)
+  charged   197 units
+  written   two.pgm: PGM, 1 x 2, 13 bytes, CRC-32 67db2ee9
+END
+{ printf 'P5\n1 2\n255\n' && byte 129 && byte 161; } | cmp -s - two.pgm
+note $? 'their grey values'
+prints 'such a picture without its second block' two.tif second-lost.map <<'END'
+two.tif
+  pixels    1 x 2
+  segments  2, each at most 1 x 1
+  blocks    2, of which 1 did not come
+  quality   .2
+        1   good (1, a dot)
+        1   did not come (2)
+        0   outside the file (3)
+        0   packets not accepted (4)
+  charged   169 units
 END
 
 # ---- where nothing can be written
