@@ -73,7 +73,7 @@ pub fn scalar(file: &[u8], map: &[u8], big: bool, entry: usize) -> usize
     word_at(file, map, big, entry, entry + 8)
 }
 
-// Where value i lies: all that fit there in the entry's field, others from the offset there.
+// Where value i lies: in the entry's field if all values fit there, else from the offset that it holds.
 fn place_of(file: &[u8], map: &[u8], big: bool, entry: usize, i: usize) -> usize
     requires { ⌜ There (seen (now file) (now map)) entry 12 × (i < countAt (seen (now file) (now map)) big entry) ⌝ }
     ensures { λ r. ⌜ r ≡ placeOf (seen (now (file .entry)) (now (map .entry))) big entry i ⌝ }

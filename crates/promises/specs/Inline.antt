@@ -17,7 +17,7 @@ use Rattle.patchy.specs.declared.Sizes.{Sizes}
 use Rattle.promises.specs.Strict.{PageFine}
 use Rattle.promises.specs.Patchy.{Call, view, pageFormat, qualityThen, Answered}
 
--- of an entry: its values stand in its field; there is one of them, or there are two of type 3
+-- of an entry: its values stand in its field; there are two of type 3
 module _ (v : Seen) (big : Bool) (e : ℕ) where
   abbrev pub Inline : Type 0
   Inline = inField v big e ≡ true
@@ -25,7 +25,7 @@ module _ (v : Seen) (big : Bool) (e : ℕ) where
   abbrev pub TwoShorts : Type 0
   TwoShorts = (countAt v big e ≡ 2) × (typeAt v big e ≡ 3)
 
--- of a picture: its offsets stand in their entry, its counts do, and both
+-- of a picture: its offsets stand in the field of their entry; its counts do
 module _ (v : Seen) (f : Format) where
   abbrev pub OffsetsInline : Type 0
   OffsetsInline = Inline v (f .big) (f .offsets)

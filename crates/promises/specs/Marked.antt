@@ -73,8 +73,8 @@ strips height rows = shapeOf (sides 1 height rows 0) false
 abbrev tiles : Shape
 tiles = shapeOf (sides 17 5 0 16) true
 
--- Two strips of one row of two pixels in a file of either byte order: behind eight bytes an entry of two offsets and one of two counts, all of type 3,
--- then the packets.
+-- Two strips of one row of two pixels in a file of either byte order: behind eight bytes the entries of slots 6 and 10, at 8 and 20, with two offsets
+-- and two counts of type 3; then the packets, at 32 and 40.
 abbrev short : Bool → ℕ → List ℕ
 short big n = pick big (n / 256 ∷ n % 256 ∷ []) (n % 256 ∷ n / 256 ∷ [])
 
