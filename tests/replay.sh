@@ -150,10 +150,32 @@ prints 'a second start that is shorter' trace <said
 two >two.tif
 start 520 >trace
 of two.tif 0 >>trace
-{ told trace 2 0 0 0 "$whole" && shown two.tif first.map; } >said
+{ told trace 2 0 0 0 "$whole" && cat <<'END'; } >said
+  picture   520 bytes in 2 blocks
+  pixels    1 x 2
+  segments  2, each at most 1 x 1
+  blocks    2, of which 1 did not come
+  quality   .2
+        1   good (1, a dot)
+        1   did not come (2)
+        0   outside the file (3)
+        0   packets not accepted (4)
+  charged   169 units
+END
 prints 'a picture with offsets and counts in its entries, and one of its blocks' trace <said
 of two.tif 1 >>trace
-{ told trace 3 0 0 0 "$whole" && shown two.tif both.map; } >said
+{ told trace 3 0 0 0 "$whole" && cat <<'END'; } >said
+  picture   520 bytes in 2 blocks
+  pixels    1 x 2
+  segments  2, each at most 1 x 1
+  blocks    2, of which 0 did not come
+  quality   ..
+        2   good (1, a dot)
+        0   did not come (2)
+        0   outside the file (3)
+        0   packets not accepted (4)
+  charged   197 units
+END
 prints 'its other block too' trace <said
 { start 0 && zeros 0 0; } >trace
 { told trace 1 0 1 0 "$whole" && echo '  picture   0 bytes in 0 blocks' && "$strips" empty | tail -n +2; } >said

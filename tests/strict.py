@@ -327,8 +327,6 @@ def layouts():
     yield record('mark4-one-less', marked(CASE1[:-1]))
     yield record('mark5', marked(CASE1 + b'\x01\x09'))
     yield record('mark6', marked(b''))
-    for s, big in ORDERS:
-        yield record('mark13-' + s, laid(CASE13, big=big, kinds=(3, 3)))
     yield record('zero-first', marked(b'\x00' + CASE1))
     yield record('zero-between', marked(CASE1[:4] + b'\x00\x00' + CASE1[4:]))
     yield record('zero-in-row', marked(b'\x01\x07\x00\x01\x07' + CASE1[2:]))
@@ -337,6 +335,9 @@ def layouts():
         yield record('zero-strip-%d' % k, with_part(laid(STRIP3), k, b'\x00' + STRIP3[1][k] + b'\x00\x00'))
     for k in range(2):
         yield record('zero-tile-%d' % k, with_part(laid(TILE2), k, TILE2[1][k] + b'\x00'))
+    # the marked case of two strips
+    for s, big in ORDERS:
+        yield record('mark13-' + s, laid(CASE13, big=big, kinds=(3, 3)))
 
 def entries():
     # an array at the end of the file, which is cut inside its last value, its last but one and its first
