@@ -1,4 +1,4 @@
-// The slots that hold several values: step 4 of the profile, bits and format of the three samples, and step 8, offsets and counts.
+// The slots that may hold several values: step 4 of the profile, bits and format of the samples, and step 8, offsets and counts.
 use checks::INVALID;
 use checks::NOT_ARRIVED;
 use checks::TRUNCATED;
@@ -12,15 +12,22 @@ ghost use Rattle.checks.specs.Checks.{verdict};
 ghost use Rattle.seen.specs.Seen.{seen, There};
 ghost use Rattle.tags.specs.Inner.{EntryThere, SlotsThere};
 ghost use Rattle.entries.specs.Values.{countAt};
-ghost use Rattle.profile.specs.Profile.{carries, eachIs, threeChecks, step4, step8};
+ghost use Rattle.profile.specs.Profile.{carries, eachIs, sampleChecks, step4, step8};
 
-// The three values of an entry, in order: outside 1, not arrived 8, another number than wanted 3.
-fn check_each(file: &[u8], map: &[u8], big: bool, entry: usize, wanted: usize) -> Verdict
-    requires { ⌜ There (seen (now file) (now map)) entry 12 × (countAt (seen (now file) (now map)) big entry ≡ 3) ⌝ }
-    ensures { λ r. ⌜ r ≡ verdict (eachIs (seen (now (file .entry)) (now (map .entry))) big entry wanted 0 3) ⌝ }
+// The values of an entry, in order: outside 1, not arrived 8, another number than wanted 3.
+fn check_each(
+    file: &[u8],
+    map: &[u8],
+    big: bool,
+    samples: usize,
+    entry: usize,
+    wanted: usize,
+) -> Verdict
+    requires { ⌜ There (seen (now file) (now map)) entry 12 × (countAt (seen (now file) (now map)) big entry ≡ samples) ⌝ }
+    ensures { λ r. ⌜ r ≡ verdict (eachIs (seen (now (file .entry)) (now (map .entry))) big entry wanted 0 samples) ⌝ }
 {
     let mut i: usize = 0;
-    while i < 3 {
+    while i < samples {
         match entries::value_at(file, map, big, entry, i) {
             Value::Outside => {
                 return Verdict::Refused(TRUNCATED);
@@ -50,25 +57,38 @@ fn is_list(file: &[u8], map: &[u8], big: bool, entry: usize, n: usize) -> bool
     entries::has_values(file, map, big, entry, n)
 }
 
-// Three values of one number.
-fn check_three(file: &[u8], map: &[u8], big: bool, entry: usize, wanted: usize) -> Verdict
+// A value for each sample, all of one number.
+fn check_samples(
+    file: &[u8],
+    map: &[u8],
+    big: bool,
+    samples: usize,
+    entry: usize,
+    wanted: usize,
+) -> Verdict
     requires { ⌜ EntryThere (seen (now file) (now map)) entry ⌝ }
-    ensures { λ r. ⌜ r ≡ verdict (threeChecks (seen (now (file .entry)) (now (map .entry))) big entry wanted) ⌝ }
+    ensures { λ r. ⌜ r ≡ verdict (sampleChecks (seen (now (file .entry)) (now (map .entry))) big samples entry wanted) ⌝ }
 {
-    if is_list(file, map, big, entry, 3) {
-        return check_each(file, map, big, entry, wanted);
+    if is_list(file, map, big, entry, samples) {
+        return check_each(file, map, big, samples, entry, wanted);
     }
     Verdict::Refused(UNSUPPORTED)
 }
 
-// Step 4: three values of 16 in slot 2, then three of 2 in slot 18.
-pub fn check_depths(file: &[u8], map: &[u8], big: bool, slots: [usize; 19]) -> Verdict
+// Step 4: for each sample 16 in slot 2, then 2 in slot 18.
+pub fn check_depths(
+    file: &[u8],
+    map: &[u8],
+    big: bool,
+    samples: usize,
+    slots: [usize; 19],
+) -> Verdict
     requires { ⌜ SlotsThere (seen (now file) (now map)) slots ⌝ }
-    ensures { λ r. ⌜ r ≡ verdict (step4 (seen (now (file .entry)) (now (map .entry))) big slots) ⌝ }
+    ensures { λ r. ⌜ r ≡ verdict (step4 (seen (now (file .entry)) (now (map .entry))) big samples slots) ⌝ }
 {
-    match check_three(file, map, big, slots[BITS_PER_SAMPLE], 16) {
+    match check_samples(file, map, big, samples, slots[BITS_PER_SAMPLE], 16) {
         Verdict::Refused(e) => Verdict::Refused(e),
-        Verdict::Fine => check_three(file, map, big, slots[SAMPLE_FORMAT], 2),
+        Verdict::Fine => check_samples(file, map, big, samples, slots[SAMPLE_FORMAT], 2),
     }
 }
 

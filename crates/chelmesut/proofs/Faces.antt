@@ -172,7 +172,7 @@ module _ (file : List ℕ) (page : ℕ) (l : Limits) (map : List ℕ) (units : �
           as-read n u words (en ∙ ap patchy.readingNumber (sym q)) (ap patchy.readingLeft (sym q)) (ap told-sizes (sym q))
 
       pub read-too : (s : Sizes) (u : ℕ) → r ≡ reading-is.Picture s u
-          → Read 0 u x y z (s .width ∷ s .height ∷ s .«block_width» ∷ s .«block_height» ∷ s .segments ∷ [])
+          → Read 0 u x y z (s .width ∷ s .height ∷ s .«block_width» ∷ s .«block_height» ∷ s .segments ∷ s .channels ∷ [])
       read-too s u q = as-read 0 u _ (ap patchy.readingNumber (sym q)) (ap patchy.readingLeft (sym q)) (ap told-sizes (sym q))
 
 pub ruleset patching = (not-read, read-too, needs)

@@ -116,7 +116,7 @@ pub extern "C" fn chelmesut_read_patchy(
     output: &mut [u8],
     scratch: &mut [u8],
     quality: &mut [u8],
-    answer: &mut [usize; 5],
+    answer: &mut [usize; 6],
 ) -> usize
     ensures { λ r. ⌜ ReadPatchy (now (file .entry)) page
         (limitsOf «max_input» «max_output» «max_dimension» «max_directories» «max_tags» «max_segments»)
@@ -145,6 +145,7 @@ pub extern "C" fn chelmesut_read_patchy(
                 sizes.block_width,
                 sizes.block_height,
                 sizes.segments,
+                sizes.channels,
             ];
             0
         }

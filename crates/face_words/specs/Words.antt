@@ -3,6 +3,7 @@ use Prim.Native.Nat.{ℕ}
 use mathlib.Core.Bool.{Bool, true, false, _&&_}
 use mathlib.Core.List.{List, [], _∷_}
 use lib.Dec.{eqb}
+use Rattle.head.specs.Heads.{channelsOf}
 use Rattle.header.specs.declared.Limits.{Limits}
 use Rattle.handle.specs.declared.Handle.{Handle}
 
@@ -22,7 +23,7 @@ abbrev pub wordsOf : Handle → List ℕ
 wordsOf h =
     h .format .width ∷
     h .format .height ∷
-    3 ∷
+    channelsOf (h .format .mono) ∷
     16 ∷
     16 ∷
     1 ∷

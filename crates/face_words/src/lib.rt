@@ -49,10 +49,12 @@ pub fn words_of(handle: Handle) -> [usize; 17]
     ensures { λ r. ⌜ r ≡ wordsOf handle ⌝ }
 {
     let format = handle.format;
+    let mono = format.mono;
+    let channels = head::channels_of(mono);
     [
         format.width,
         format.height,
-        3,
+        channels,
         16,
         16,
         1,

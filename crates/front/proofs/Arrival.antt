@@ -7,6 +7,7 @@ use native.Mathlib.Omega.{arith}
 use lib.ListN.{length}
 use lib.Dec.{ltb, leb, eqb}
 use borrow.Author.Tests.{ltb-true}
+use Rattle.head.specs.Heads.{channelsOf}
 use Rattle.checks.specs.Numbers.{truncated, invalid, unsupported, limit, pageNotFound, budget, notArrived}
 use Rattle.checks.specs.Checks.{Check, must, pay, run, Never}
 use Rattle.checks.specs.declared.Told.the-variants.{Refused}
@@ -20,7 +21,7 @@ use Rattle.tiff.specs.Walk.{walkChecks}
 use Rattle.entries.specs.Values.{sizeOf, placeOf, valueAt}
 use Rattle.header.specs.declared.Limits.{Limits}
 use Rattle.tags.specs.Slots.{bitsPerSample, tileOffsets, extraSamples, sampleFormat, entryIn, present}
-use Rattle.profile.specs.Profile.{scalars, scalarChecks, step1, step2, step3, eachIs, threeChecks, step4, step5, step6, step7, step8, numbersOf, shapeOf, shapeIn, profileChecks}
+use Rattle.profile.specs.Profile.{scalars, scalarChecks, step1, step2, step3, eachIs, sampleChecks, step4, step5, step6, step7, step8, numbersOf, headIn, shapeOf, shapeIn, profileChecks}
 use Rattle.profile.specs.Inner.{from7, from5, from2}
 use Rattle.profile.specs.declared.Numbers.{Numbers}
 use Rattle.front.specs.Front.{profileFee, slotsSeen, frontChecks, foundOf}
@@ -95,17 +96,17 @@ module _ (number : ℕ) (unusual : Unusual number) where
           (never-there (placeOf v b e i) (sizeOf v b e))
           (not-given unsupported (omega arith) (omega arith), never-each e wanted (suc i) n)
 
-      never-three : (e wanted : ℕ) → Never number (threeChecks v b e wanted)
-      unfolding threeChecks Never
-      never-three e wanted = (not-given unsupported (omega arith) (omega arith), never-each e wanted 0 3)
+      never-sample : (n e wanted : ℕ) → Never number (sampleChecks v b n e wanted)
+      unfolding sampleChecks Never
+      never-sample n e wanted = (not-given unsupported (omega arith) (omega arith), never-each e wanted 0 n)
 
       module _ (slots : List ℕ) (l : Limits) where
-        never-samples : Never number (step4 v b slots)
+        never-samples : (n : ℕ) → Never number (step4 v b n slots)
         unfolding step4
-        never-samples =
+        never-samples n =
             let bits = entryIn slots bitsPerSample in
             let formats = entryIn slots sampleFormat in
-            never-both number (threeChecks v b bits 16) (threeChecks v b formats 2) (never-three bits 16) (never-three formats 2)
+            never-both number (sampleChecks v b n bits 16) (sampleChecks v b n formats 2) (never-sample n bits 16) (never-sample n formats 2)
 
         usual-blocks : (n : Numbers) (t : Bool) → usual (from5 v b slots (shapeOf n t) l) ≡ true
         unfolding usual from5 from7 step5 step6 step7 step8 shapeOf
@@ -118,9 +119,10 @@ module _ (number : ℕ) (unusual : Unusual number) where
             let two = step2 n (l .«max_dimension») in
             let three = step3 n (entryIn slots extraSamples) in
             let five = from5 v b slots (shapeIn slots n) l in
-            never-both number two (three ++ (step4 v b slots ++ five)) (usual-never two refl)
-            (never-both number three (step4 v b slots ++ five) (usual-never three refl)
-            (never-both number (step4 v b slots) five never-samples (usual-never five (usual-blocks n (present (entryIn slots tileOffsets))))))
+            let four = step4 v b (channelsOf (headIn n)) slots in
+            never-both number two (three ++ (four ++ five)) (usual-never two refl)
+            (never-both number three (four ++ five) (usual-never three refl)
+            (never-both number four five (never-samples (channelsOf (headIn n))) (usual-never five (usual-blocks n (present (entryIn slots tileOffsets))))))
 
         never-profile : Never number (profileChecks v b slots l)
         unfolding profileChecks from2 from5 from7 scalarChecks scalars usual

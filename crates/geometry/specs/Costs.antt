@@ -1,14 +1,16 @@
--- What a segment needs and costs by its area A, which is block width × rows.
+-- What a segment of either head needs and costs by its area A, which is block width × rows.
 use Prim.Native.Nat.{ℕ, _+_, _*_}
+use Rattle.head.specs.Heads.{Head, planesOf, bytesOf}
 
--- needed are 4A bytes (rule 4.4)
-abbrev pub neededFor : ℕ → ℕ
-neededFor area = 4 * area
+module _ (head : Head) where
+  -- needed are pA bytes (rule 4.4)
+  abbrev pub neededFor : ℕ → ℕ
+  neededFor area = planesOf head * area
 
--- scratch is 10A (rules 4.2 d and 7.3)
-abbrev pub scratchFor : ℕ → ℕ
-scratchFor area = 10 * area
+  -- scratch is (p + b)A (rules 4.2 d and 7.3)
+  abbrev pub scratchFor : ℕ → ℕ
+  scratchFor area = (planesOf head + bytesOf head) * area
 
--- fee = count + 20A + 1 (rule 5.3)
-abbrev pub fee : ℕ → ℕ → ℕ
-fee count area = count + 20 * area + 1
+  -- fee = count + 2(p + b)A + 1 (rule 5.3)
+  abbrev pub fee : ℕ → ℕ → ℕ
+  fee count area = count + 2 * scratchFor area + 1

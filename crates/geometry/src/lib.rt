@@ -46,25 +46,25 @@ pub fn area(width: usize, rows: usize) -> usize
 }
 
 // The bytes that packets must fill for an area.
-pub fn needed_for(area: usize) -> usize
+pub fn needed_for(mono: bool, area: usize) -> usize
     requires { ⌜ area ≤ mostArea ⌝ }
-    ensures { λ r. ⌜ r ≡ neededFor area ⌝ }
+    ensures { λ r. ⌜ r ≡ neededFor mono area ⌝ }
 {
-    4 * area
+    head::planes_of(mono) * area
 }
 
 // The scratch by way of which an area is shown.
-pub fn scratch_for(area: usize) -> usize
+pub fn scratch_for(mono: bool, area: usize) -> usize
     requires { ⌜ area ≤ mostArea ⌝ }
-    ensures { λ r. ⌜ r ≡ scratchFor area ⌝ }
+    ensures { λ r. ⌜ (r ≡ scratchFor mono area) × (r ≤ 10 * mostArea) ⌝ }
 {
-    10 * area
+    (head::planes_of(mono) + head::bytes_of(mono)) * area
 }
 
 // What so many stored bytes and such an area cost.
-pub fn fee_of(count: usize, area: usize) -> Size
+pub fn fee_of(mono: bool, count: usize, area: usize) -> Size
     requires { ⌜ area ≤ mostArea ⌝ }
-    ensures { λ r. ⌜ r ≡ within (fee count area) ⌝ }
+    ensures { λ r. ⌜ r ≡ within (fee mono count area) ⌝ }
 {
-    checks::sum(count, 20 * area + 1)
+    checks::sum(count, 2 * scratch_for(mono, area) + 1)
 }

@@ -56,16 +56,21 @@ module _ (f g : Format) {s : Bool} (es : s ≡ sameSides f g) where
     unfolding sameFormat
     cut-differs q = rw (← es, qs, ← et, q)
 
-    pub format-is : {r : Bool} → t ≡ true → r ≡ sameEntries f g → r ≡ sameFormat f g
-    unfolding sameFormat
-    format-is q e = rw (← es, qs, ← et, q) e
+    module _ (qt : t ≡ true) {u : Bool} (eu : u ≡ sameEntries f g) where
+      pub entries-differ : u ≡ false → false ≡ sameFormat f g
+      unfolding sameFormat
+      entries-differ q = rw (← es, qs, ← et, qt, ← eu, q)
+
+      pub format-is : {r : Bool} → u ≡ true → r ≡ sameBool (f .mono) (g .mono) → r ≡ sameFormat f g
+      unfolding sameFormat
+      format-is q e = rw (← es, qs, ← et, qt, ← eu, q) e
 
 pub handle-is : (g h : Handle) {t r : Bool} → t ≡ sameFormat (g .format) (h .format)
     → r ≡ t && eqb (g .page) (h .page) && eqb (g .scratch) (h .scratch) && eqb (g .work) (h .work) → r ≡ sameHandle g h
 unfolding sameHandle
 handle-is g h t e = rw t at e
 
-pub ruleset comparisons = (sides-are, cut-is, entries-are, sides-differ, cut-differs, format-is, handle-is, not-true, not-false, needs)
+pub ruleset comparisons = (sides-are, cut-is, entries-are, sides-differ, cut-differs, entries-differ, format-is, handle-is, not-true, not-false, needs)
 
 -- equal handles
 all-hold : (a b c d : Bool) → a && b && c && d ≡ true → (a ≡ true) × (b ≡ true) × (c ≡ true) × (d ≡ true)
@@ -82,14 +87,14 @@ bool-is false b e = sym (not-true b e)
 format-same : (f g : Format) → sameFormat f g ≡ true → f ≡ g
 unfolding sameFormat sameSides sameCut sameEntries
 format-same f g e =
-    let parts = all-hold true (sameSides f g) (sameCut f g) (sameEntries f g) e in
+    let parts = all-hold (sameSides f g) (sameCut f g) (sameEntries f g) (sameBool (f .mono) (g .mono)) e in
     let sides =
     all-hold (eqb (f .width) (g .width)) (eqb (f .height) (g .height)) (eqb (f .«block_width») (g .«block_width»)) (eqb (f .«block_height») (g .«block_height»))
-    (parts .1) in
+    (parts .0) in
     let cut =
-    all-hold (sameBool (f .tiled) (g .tiled)) (eqb (f .across) (g .across)) (eqb (f .segments) (g .segments)) (eqb (f .output) (g .output)) (parts .2) in
+    all-hold (sameBool (f .tiled) (g .tiled)) (eqb (f .across) (g .across)) (eqb (f .segments) (g .segments)) (eqb (f .output) (g .output)) (parts .1) in
     let rest =
-    all-hold (sameBool (f .big) (g .big)) (eqb (f .offsets) (g .offsets)) (eqb (f .counts) (g .counts)) (eqb (f .entries) (g .entries)) (parts .3) in
+    all-hold (sameBool (f .big) (g .big)) (eqb (f .offsets) (g .offsets)) (eqb (f .counts) (g .counts)) (eqb (f .entries) (g .entries)) (parts .2) in
     λ i. record {
       width = eqb-true (f .width) (g .width) (sides .0) i;
       height = eqb-true (f .height) (g .height) (sides .1) i;
@@ -103,6 +108,7 @@ format-same f g e =
       offsets = eqb-true (f .offsets) (g .offsets) (rest .1) i;
       counts = eqb-true (f .counts) (g .counts) (rest .2) i;
       entries = eqb-true (f .entries) (g .entries) (rest .3) i;
+      mono = bool-is (f .mono) (g .mono) (parts .3) i;
     }
 
 pub same-is : (g h : Handle) → sameHandle g h ≡ true → g ≡ h

@@ -47,7 +47,7 @@ unfoldable pub sameEntries : Format → Format → Bool
 sameEntries f g = sameBool (f .big) (g .big) && eqb (f .offsets) (g .offsets) && eqb (f .counts) (g .counts) && eqb (f .entries) (g .entries)
 
 unfoldable pub sameFormat : Format → Format → Bool
-sameFormat f g = sameSides f g && sameCut f g && sameEntries f g
+sameFormat f g = sameSides f g && sameCut f g && sameEntries f g && sameBool (f .mono) (g .mono)
 
 unfoldable pub sameHandle : Handle → Handle → Bool
 sameHandle g h = sameFormat (g .format) (h .format) && eqb (g .page) (h .page) && eqb (g .scratch) (h .scratch) && eqb (g .work) (h .work)

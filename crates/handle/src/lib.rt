@@ -88,7 +88,10 @@ fn same_format(f: Format, g: Format) -> bool
     if !same_cut(f, g) {
         return false;
     }
-    same_entries(f, g)
+    if !same_entries(f, g) {
+        return false;
+    }
+    same_bool(f.mono, g.mono)
 }
 
 pub fn same_handle(g: Handle, h: Handle) -> bool

@@ -3,11 +3,12 @@ use handle::Handle;
 use header::Limits;
 ghost use mathlib.Core.Path.{_≡_};
 ghost use mathlib.Core.Bool.{false};
+ghost use Rattle.head.specs.Heads.{channelsOf};
 ghost use Rattle.image_info.specs.Alpha.{alphaNumber};
 ghost use Rattle.image_info.specs.declared.AlphaMode.the-variants as alpha-is;
 
 // What an image carries besides the file: the number of the inspection's answer, the limits that it was made under, and the handle.
-// After a refusal all but the number is 0. Its methods are upstream's getters.
+// After a refusal all but the number is 0, and the head is that for colour. Its methods are upstream's getters.
 pub struct Info {
     pub number: u8,
     pub limits: Limits,
@@ -36,11 +37,14 @@ impl Info {
         format.height
     }
 
-    // Samples of a pixel: L, u, v.
+    // Samples of a pixel: L, u, v, or L alone.
     pub fn channels(self) -> usize
-        ensures { λ r. ⌜ r ≡ 3 ⌝ }
+        ensures { λ r. ⌜ r ≡ channelsOf (self .handle .format .mono) ⌝ }
     {
-        3
+        let handle = self.handle;
+        let format = handle.format;
+        let mono = format.mono;
+        head::channels_of(mono)
     }
 
     pub fn bits_per_sample(self) -> usize

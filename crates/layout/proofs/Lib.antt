@@ -1,2 +1,3 @@
+pub mod HeadKinds
 pub mod Shapes
 pub mod Sizes

@@ -6,6 +6,7 @@ use native.Mathlib.Omega.{arith}
 use lib.Dec.{leb}
 use borrow.Author.Needs.{needs}
 use borrow.Author.Tests.{le-leb, lt-leb}
+use Rattle.head.specs.Heads.{bytesOf}
 use Rattle.checks.specs.Numbers.{limit, verdictNumber}
 use Rattle.checks.specs.Checks.{verdict}
 use Rattle.checks.specs.Sizes.{most64, within}
@@ -48,7 +49,10 @@ module _ (s : Shape) (ms mo across down : ℕ) (ea : across ≡ acrossOf s) (ed 
     pub segments-many : ms < segments → Refused limit ≡ countedOf s ms mo
     segments-many h = many-segments (omega (arith, segments-are))
 
-    module _ (fine : segments ≤ ms) {t : Size} (et : t ≡ within (outputOf s)) where
+    module _ (fine : segments ≤ ms) (b : ℕ) (eb : b ≡ bytesOf (s .mono)) {t : Size} (told : t ≡ within (b * (s .width * s .height))) where
+      et : t ≡ within (outputOf s)
+      et = rw eb at told
+
       few : leb (segmentsOf s) ms ≡ true
       few = le-leb (segmentsOf s) ms (omega (arith, segments-are))
 

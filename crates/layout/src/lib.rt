@@ -14,7 +14,7 @@ use tags::TILE_WIDTH;
 ghost use mathlib.Core.Path.{_≡_};
 ghost use Prim.Native.Nat.{_<_};
 ghost use Rattle.checks.specs.Checks.{verdict};
-ghost use Rattle.profile.specs.Profile.{step2, step3, shapeOf, step5, step6};
+ghost use Rattle.profile.specs.Profile.{kindIs, hasHead, headIn, step2, step3, shapeOf, step5, step6};
 ghost use Rattle.profile.specs.Inner.{SoundShape, numberChecks, layoutChecks};
 ghost use Rattle.layout.specs.Inner.{countedOf};
 
@@ -24,15 +24,42 @@ pub enum Counted {
     Sizes(usize, usize, usize),
 }
 
+// Whether slots 4 and 8 are those of a head's pictures: the monochrome one's, or those of the one for colour.
+fn is_kind(n: Numbers, mono: bool) -> bool
+    ensures { λ r. ⌜ r ≡ kindIs n mono ⌝ }
+{
+    let photometric = n.photometric;
+    let samples = n.samples;
+    if photometric != head::photometric_of(mono) {
+        return false;
+    }
+    samples == head::channels_of(mono)
+}
+
+// Whether they are those of one of the two heads.
+fn has_head(n: Numbers) -> bool
+    ensures { λ r. ⌜ r ≡ hasHead n ⌝ }
+{
+    if is_kind(n, false) {
+        return true;
+    }
+    is_kind(n, true)
+}
+
+// The head whose pictures have these numbers; where there is none, it is not asked for.
+pub fn is_mono(n: Numbers) -> bool
+    ensures { λ r. ⌜ r ≡ headIn n ⌝ }
+{
+    is_kind(n, true)
+}
+
 // Step 2: the picture's sides and the kind of its samples.
 fn check_kind(n: Numbers, max_dimension: usize) -> Verdict
     ensures { λ r. ⌜ r ≡ verdict (step2 n «max_dimension») ⌝ }
 {
     let width = n.width;
     let height = n.height;
-    let samples = n.samples;
     let compression = n.compression;
-    let photometric = n.photometric;
     if width == 0 {
         return Verdict::Refused(UNSUPPORTED);
     }
@@ -45,13 +72,10 @@ fn check_kind(n: Numbers, max_dimension: usize) -> Verdict
     if max_dimension < height {
         return Verdict::Refused(UNSUPPORTED);
     }
-    if samples != 3 {
-        return Verdict::Refused(UNSUPPORTED);
-    }
     if compression != 34676 {
         return Verdict::Refused(UNSUPPORTED);
     }
-    if photometric != 32845 {
+    if !has_head(n) {
         return Verdict::Refused(UNSUPPORTED);
     }
     Verdict::Fine
@@ -99,6 +123,7 @@ pub fn shape_of(n: Numbers, tiled: bool) -> Shape
 {
     let width = n.width;
     let height = n.height;
+    let mono = is_mono(n);
     if tiled {
         let block_width = n.tile_width;
         let block_height = n.tile_height;
@@ -108,6 +133,7 @@ pub fn shape_of(n: Numbers, tiled: bool) -> Shape
             block_width: block_width,
             block_height: block_height,
             tiled: true,
+            mono: mono,
         };
     }
     let rows = n.strip_rows;
@@ -118,6 +144,7 @@ pub fn shape_of(n: Numbers, tiled: bool) -> Shape
         block_width: width,
         block_height: block_height,
         tiled: false,
+        mono: mono,
     }
 }
 
@@ -194,6 +221,7 @@ pub fn count_segments(s: Shape, max_segments: usize, max_output: usize) -> Count
     let height = s.height;
     let block_width = s.block_width;
     let block_height = s.block_height;
+    let mono = s.mono;
     let across = geometry::pieces_of(width, block_width);
     let down = geometry::pieces_of(height, block_height);
     match checks::product(across, down) {
@@ -202,7 +230,7 @@ pub fn count_segments(s: Shape, max_segments: usize, max_output: usize) -> Count
             if max_segments < segments {
                 return Counted::Refused(LIMIT);
             }
-            match checks::product3(6, width, height) {
+            match checks::product3(head::bytes_of(mono), width, height) {
                 Size::Over => Counted::Refused(LIMIT),
                 Size::Fits(output) => {
                     if max_output < output {

@@ -8,6 +8,7 @@ use native.Mathlib.Omega.{arith}
 use borrow.Author.Needs.{needs}
 use borrow.Author.Tests.{ltb-true}
 use Rattle.lists.specs.Lists.{pick}
+use Rattle.head.specs.Heads.{Head, channelsOf}
 use Rattle.checks.specs.Checks.{Check, verdict, Holds}
 use Rattle.checks.specs.declared.Verdict.{Verdict}
 use Rattle.checks.specs.declared.Verdict.the-variants as verdict-is
@@ -17,7 +18,7 @@ use Rattle.tags.specs.Slots.{stripOffsets, stripByteCounts, tileOffsets, tileBy
 use Rattle.tags.specs.Inner.{EntryThere, SlotsThere}
 use Rattle.header.specs.declared.Limits.{Limits}
 use Rattle.picture.specs.declared.Format.{Format}
-use Rattle.profile.specs.Profile.{step1, step2, step3, step4, step5, step6, step7, step8, numbersOf, shapeOf, shapeIn, acrossOf, segmentsOf, outputOf, offsetsIn, countsIn, profileChecks, profiled, formatWith, profileFound}
+use Rattle.profile.specs.Profile.{headIn, step1, step2, step3, step4, step5, step6, step7, step8, numbersOf, shapeOf, shapeIn, acrossOf, segmentsOf, outputOf, offsetsIn, countsIn, profileChecks, profiled, formatWith, profileFound}
 use Rattle.profile.specs.Inner.{Sided, SoundShape, numberChecks, layoutChecks, from7, from5, from2, foundFrom7, foundFrom5, foundFrom2}
 use Rattle.profile.specs.declared.Numbers.{Numbers}
 use Rattle.profile.specs.declared.Shape.{Shape}
@@ -107,6 +108,7 @@ module _ (v : Seen) (big : Bool) (entries : ℕ) (slots : List ℕ) (s : Shape) 
           offsets = os;
           counts = cs;
           entries = entries;
+          mono = s .mono;
         }
 
         pub lists-fine : t ≡ verdict-is.Fine → Picture read ≡ foundFrom7 v big entries slots s l
@@ -170,7 +172,7 @@ module _ (v : Seen) (big : Bool) (entries : ℕ) (slots : List ℕ) (n : Numbers
   two = numberChecks n (entryIn slots extraSamples) (l .«max_dimension»)
 
   abbrev four : List Check
-  four = step4 v big slots
+  four = step4 v big (channelsOf (headIn n)) slots
 
   abbrev five : List Check
   five = from5 v big slots (shapeIn slots n) l
@@ -185,7 +187,11 @@ module _ (v : Seen) (big : Bool) (entries : ℕ) (slots : List ℕ) (n : Numbers
   pub numbers-refused : (e : ℕ) → r ≡ verdict-is.Refused e → Refused e ≡ foundFrom2 v big entries slots n l
   numbers-refused = refused-by (from2 v big slots n l) two (four ++ five) split-2 given er
 
-  module _ (q : r ≡ verdict-is.Fine) {t : Verdict} (et : t ≡ verdict (step4 v big slots)) where
+  module _ (q : r ≡ verdict-is.Fine) (head : Head) (eh : head ≡ headIn n) (samples : ℕ) (ec : samples ≡ channelsOf head)
+      {t : Verdict} (told : t ≡ verdict (step4 v big samples slots)) where
+    et : t ≡ verdict four
+    et = rw (ec, eh) at told
+
     pub samples-refused : (e : ℕ) → t ≡ verdict-is.Refused e → Refused e ≡ foundFrom2 v big entries slots n l
     samples-refused e f = passed-by (from2 v big slots n l) two (four ++ five) split-2 given er q (refused-by (four ++ five) four five refl given et e f)
 

@@ -36,6 +36,7 @@ fn read_segments(
         Counted::Refused(e) => Profile::Refused(e),
         Counted::Sizes(across, segments, output) => {
             let tiled = s.tiled;
+            let mono = s.mono;
             let offsets = if tiled {
                 slots[TILE_OFFSETS]
             } else {
@@ -61,6 +62,7 @@ fn read_segments(
                     offsets: offsets,
                     counts: counts,
                     entries: entries,
+                    mono: mono,
                 }),
             }
         }
@@ -103,10 +105,13 @@ fn read_samples(
     let max_dimension = limits.max_dimension;
     match layout::check_numbers(n, slots[EXTRA_SAMPLES], max_dimension) {
         Verdict::Refused(e) => Profile::Refused(e),
-        Verdict::Fine => match arrays::check_depths(file, map, big, slots) {
-            Verdict::Refused(e) => Profile::Refused(e),
-            Verdict::Fine => read_blocks(file, map, big, entries, slots, n, limits),
-        },
+        Verdict::Fine => {
+            let samples = head::channels_of(layout::is_mono(n));
+            match arrays::check_depths(file, map, big, samples, slots) {
+                Verdict::Refused(e) => Profile::Refused(e),
+                Verdict::Fine => read_blocks(file, map, big, entries, slots, n, limits),
+            }
+        }
     }
 }
 

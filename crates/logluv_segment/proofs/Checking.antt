@@ -16,9 +16,8 @@ use Rattle.seen.specs.Seen.{Seen, seen}
 use Rattle.seen.proofs.Words.{bytes-there}
 use Rattle.packets.specs.Packets.{packetChecks, part}
 use Rattle.packets.proofs.Laws.{packets-free}
-use Rattle.geometry.specs.Costs.{neededFor}
 use Rattle.picture.specs.declared.Format.{Format}
-use Rattle.picture.specs.Picture.{areaOf, neededOf}
+use Rattle.picture.specs.Picture.{neededOf}
 use Rattle.picture.specs.Inner.{Readable}
 use Rattle.plan.specs.Plan.{planChecks, planIs}
 use Rattle.plan.specs.declared.Plan.{Plan}
@@ -51,10 +50,10 @@ module _ (file map : List ℕ) (f : Format) (k offset count : ℕ) (here : Locat
 
 -- the part of the file that is lent
 module _ (file : List ℕ) (f : Format) (k offset count : ℕ) where
-  pub packets-told : {r : Verdict} (area needed : ℕ) → area ≡ areaOf f k → needed ≡ neededFor area
+  pub packets-told : {r : Verdict} (needed : ℕ) → needed ≡ neededOf f k
       → r ≡ verdict (packetChecks (f .«block_width») (take (offset + count - offset) (drop offset file)) 0 needed)
       → r ≡ verdict (fillChecks f k (part file offset count))
-  packets-told area needed ea en e = rw (add-sub-cancel-left, en, ea) at e
+  packets-told needed en e = rw (add-sub-cancel-left, en) at e
 
   pub some-stride : InFile file f k offset count → 0 < f .«block_width»
   some-stride ok = ok .valid .some-block-width

@@ -9,7 +9,7 @@ use Rattle.picture.specs.declared.Format.{Format}
 use Rattle.picture.specs.Picture.{neededOf}
 use Rattle.plan.specs.Plan.{offsetOf, countOf, feeOf, planChecks}
 
--- the packets of bytes that are to fill segment k: needed are 4A bytes, stride the block width (rule 4.4)
+-- the packets of bytes that are to fill segment k: needed are pA bytes, stride the block width (rule 4.4)
 abbrev pub fillChecks : Format → ℕ → List ℕ → List Check
 fillChecks f k bytes = packetChecks (f .«block_width») bytes 0 (neededOf f k)
 

@@ -20,7 +20,7 @@ pub fn check_packets(file: &[u8], format: Format, k: usize, offset: usize, count
     ensures { λ r. ⌜ r ≡ verdict (fillChecks format k (part (now (file .entry)) offset count)) ⌝ }
 {
     let stride = format.block_width;
-    let needed = geometry::needed_for(picture::area_of(format, k));
+    let needed = picture::needed_of(format, k);
     let end = offset + count;
     packets::check_part(&file[offset..end], stride, needed)
 }

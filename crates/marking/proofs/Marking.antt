@@ -1,5 +1,5 @@
 -- The walk over a picture's segments: each is shown in its place and marked, and scratch is as long as it was.
-use Prim.Native.Nat.{ℕ, _+_, _*_, _<_, _≤_}
+use Prim.Native.Nat.{ℕ, _+_, _<_, _≤_}
 use mathlib.Core.Path.{_≡_, refl, ap, _∙_}
 use mathlib.Core.List.{List}
 use native.Mathlib.Omega.{arith}
@@ -12,7 +12,7 @@ use Rattle.seen.specs.Seen.{Seen}
 use Rattle.packets.specs.Packets.{expand}
 use Rattle.picture.specs.declared.Format.{Format}
 use Rattle.picture.specs.Inner.{Readable}
-use Rattle.picture.specs.Picture.{areaOf, scratchOf, painted}
+use Rattle.picture.specs.Picture.{neededOf, scratchOf, painted}
 use Rattle.logluv_segment.specs.Segment.{stored}
 use Rattle.picture.proofs.Sizes.{needed-in-scratch}
 use Rattle.picture.proofs.Painting.{Painting, painting-none, painting-more, painting-all}
@@ -36,7 +36,7 @@ marking-none v f output scratch quality h = record {
 
 module _ (v : Seen) (f : Format) (output₀ scratch₀ quality₀ output scratch quality : List ℕ) (k : ℕ)
     (s : Marking v f output₀ scratch₀ quality₀ output scratch quality k) where
-  pub planes-fit : scratchOf f ≤ length scratch₀ → 4 * areaOf f k ≤ length scratch
+  pub planes-fit : scratchOf f ≤ length scratch₀ → neededOf f k ≤ length scratch
   planes-fit h = omega (arith, needed-in-scratch f k, s .room)
 
   pub picture-fits : f .output ≤ length output₀ → f .output ≤ length output

@@ -7,4 +7,4 @@ use Rattle.pixel.specs.Luv.{pixels}
 
 -- what the planes of segment k stand for, the pixels of the padding included
 abbrev pub pixelsOf : Format → ℕ → List ℕ → List ℕ
-pixelsOf f k planes = pixels (f .«block_width») (rowsIn f k) planes
+pixelsOf f k planes = pixels (f .mono) (f .«block_width») (rowsIn f k) planes

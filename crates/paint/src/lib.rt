@@ -13,23 +13,27 @@ pub fn paint(planes: &[u8], format: Format, k: usize, out: &mut [u8])
     requires { ⌜ Valid format × (k < format .segments) × (neededOf format k ≤ length (now planes)) × (format .output ≤ length (now out)) ⌝ }
     ensures { λ _. ⌜ now (out .exit) ≡ painted format k (pixelsOf format k (now (planes .entry))) (now (out .entry)) ⌝ }
 {
+    let mono = format.mono;
     let v = picture::visible_of(format, k);
     luv::scatter(
+        mono,
         planes,
         format.block_width,
         v.columns,
         v.rows,
         v.first,
-        6 * format.width,
+        head::bytes_of(mono) * format.width,
         out,
     );
 }
 
-// A segment that shows nothing: six zero bytes for each of its pixels in the picture, and nothing else touched.
+// A segment that shows nothing: a pixel's zero bytes for each of its pixels in the picture, and nothing else touched.
 pub fn blank(format: Format, k: usize, out: &mut [u8])
     requires { ⌜ Valid format × (k < format .segments) × (format .output ≤ length (now out)) ⌝ }
     ensures { λ _. ⌜ now (out .exit) ≡ painted format k [] (now (out .entry)) ⌝ }
 {
+    let mono = format.mono;
+    let size = head::bytes_of(mono);
     let v = picture::visible_of(format, k);
-    clearing::clear_rows(6 * v.columns, v.rows, v.first, 6 * format.width, out);
+    clearing::clear_rows(size * v.columns, v.rows, v.first, size * format.width, out);
 }

@@ -10,6 +10,7 @@ use borrow.Author.Needs.{needs}
 use borrow.Author.Tests.{leb-true}
 use Rattle.lists.specs.Lists.{overlay}
 use Rattle.lists.proofs.Overlay.{length-span}
+use Rattle.head.specs.Heads.{channelsOf}
 use Rattle.checks.specs.Checks.{Holds}
 use Rattle.checks.specs.declared.Told.{Told}
 use Rattle.checks.specs.declared.Told.the-variants as told-is
@@ -30,6 +31,18 @@ use Rattle.admission.specs.declared.Room.{Room}
 use Rattle.admission.proofs.Admitted.{admitted-format, admitted-readable, admitted-room}
 use Rattle.patchy.specs.declared.Sizes.{Sizes}
 use Rattle.patchy.specs.declared.Reading.the-variants.{Refused, Picture}
+
+-- the sizes, of channels that a call told
+pub sizes-told : (f : Format) (channels : ℕ) → channels ≡ channelsOf (f .mono)
+    → record {
+      width = f .width;
+      height = f .height;
+      «block_width» = f .«block_width»;
+      «block_height» = f .«block_height»;
+      segments = f .segments;
+      channels = channels;
+    } ≡ sizesOf f
+sizes-told f channels e = rw e
 
 -- the part of scratch that a format needs, lent twice and zeroed the second time
 pub scratch-zeroed : (f : Format) (needed : ℕ) (old used cleared : List ℕ) → needed ≡ scratchOf f → scratchOf f ≤ length old

@@ -3,6 +3,7 @@ use Prim.Native.Nat.{ℕ}
 use mathlib.Core.List.{List, [], _∷_}
 use lib.ListN.{length, replicate}
 use Rattle.lists.specs.Lists.{overlay}
+use Rattle.head.specs.Heads.{channelsOf}
 use Rattle.seen.specs.Seen.{Seen, seen}
 use Rattle.header.specs.declared.Limits.{Limits}
 use Rattle.front.specs.Front.{formatSeen}
@@ -25,6 +26,7 @@ sizesOf f = record {
   «block_width» = f .«block_width»;
   «block_height» = f .«block_height»;
   segments = f .segments;
+  channels = channelsOf (f .mono);
 }
 
 -- the number of an answer, 0 where it is a picture, its values in the order of rule 8.9, and the units left
@@ -33,7 +35,7 @@ readingNumber (Picture s left) = 0
 readingNumber (Refused e left) = e
 
 abbrev pub readingValues : Reading → List ℕ
-readingValues (Picture s left) = s .width ∷ s .height ∷ s .«block_width» ∷ s .«block_height» ∷ s .segments ∷ []
+readingValues (Picture s left) = s .width ∷ s .height ∷ s .«block_width» ∷ s .«block_height» ∷ s .segments ∷ s .channels ∷ []
 readingValues (Refused e left) = []
 
 abbrev pub readingLeft : Reading → ℕ

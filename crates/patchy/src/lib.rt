@@ -13,13 +13,14 @@ ghost use Rattle.patchy.specs.Patchy.{sizesOf, reading, codesOver, outpu
 ghost use Rattle.marking.specs.Marks.{shownOver};
 ghost use Rattle.marking.specs.Inner.{Held};
 
-// The sides of a picture and of its blocks, and the number of its segments.
+// The sides of a picture and of its blocks, the number of its segments, and the samples of a pixel.
 pub struct Sizes {
     pub width: usize,
     pub height: usize,
     pub block_width: usize,
     pub block_height: usize,
     pub segments: usize,
+    pub channels: usize,
 }
 
 // A refusal's number or the picture's sizes, and the units left.
@@ -31,12 +32,15 @@ pub enum Reading {
 fn sizes_of(format: Format) -> Sizes
     ensures { λ r. ⌜ r ≡ sizesOf format ⌝ }
 {
+    let mono = format.mono;
+    let channels = head::channels_of(mono);
     Sizes {
         width: format.width,
         height: format.height,
         block_width: format.block_width,
         block_height: format.block_height,
         segments: format.segments,
+        channels: channels,
     }
 }
 

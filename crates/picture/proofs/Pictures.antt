@@ -8,6 +8,9 @@ use lib.ListN.{length, getD}
 use lib.Seq.{ext-getD}
 use Rattle.lists.proofs.Overlay.{length-span, getD-tabulate}
 use Rattle.lists.proofs.Rows.{row-fits}
+use Rattle.lists.proofs.Counters.{grouped-in}
+use Rattle.head.specs.Heads.{bytesOf}
+use Rattle.head.proofs.Heads.{bytes-some}
 use Rattle.geometry.specs.Geometry.{segmentOf, localOf, byteSegment, byteLocal}
 use Rattle.geometry.proofs.Cutting.{segment-in}
 use Rattle.picture.specs.declared.Format.{Format}
@@ -26,7 +29,7 @@ module _ (f : Format) where
   -- each byte of the picture is of one of its segments
   pub output-segment : Valid f → (q : ℕ) → q < f .output → segmentAt f q < f .segments
   output-segment valid q h =
-      let b = segment-in 6 (f .width) (f .height) (f .«block_width») (f .«block_height») (f .across) q (omega arith)
+      let b = segment-in (bytesOf (f .mono)) (f .width) (f .height) (f .«block_width») (f .«block_height») (f .across) q (bytes-some (f .mono))
       (valid .some-width) (valid .some-block-width) (valid .some-block-height) (valid .across-is) (omega (arith, valid .output-is)) in
       omega (arith, b, valid .segments-are)
 
@@ -39,20 +42,23 @@ same-picture f a b valid same =
     by q h = picture-at f a q h ∙ rw (same (segmentAt f q) (output-segment f valid q h)) (sym (picture-at f b q h))
 
 -- byte c of the pixel in column x of row y: its segment, its place there, and that it is in the output
-module _ (f : Format) (x y c : ℕ) (column : x < f .width) (byte : c < 6) where
-  pub pixel-segment : segmentAt f ((y * f .width + x) * 6 + c) ≡ segmentOf (f .«block_width») (f .«block_height») (f .across) x y
+module _ (f : Format) (x y c : ℕ) (column : x < f .width) (byte : c < bytesOf (f .mono)) where
+  pub pixel-segment : segmentAt f ((y * f .width + x) * bytesOf (f .mono) + c) ≡ segmentOf (f .«block_width») (f .«block_height») (f .across) x y
   unfolding byteSegment
   pixel-segment = rw (digits-div (y * f .width + x) byte, digits-div y column, digits-mod y column)
 
-  pub pixel-local : localAt f ((y * f .width + x) * 6 + c) ≡ localOf 6 (f .«block_width») (f .«block_height») x y c
+  pub pixel-local : localAt f ((y * f .width + x) * bytesOf (f .mono) + c) ≡ localOf (bytesOf (f .mono)) (f .«block_width») (f .«block_height») x y c
   unfolding byteLocal
   pixel-local = rw (digits-div (y * f .width + x) byte, digits-mod (y * f .width + x) byte, digits-div y column, digits-mod y column)
 
-  pub pixel-in : Valid f → y < f .height → (y * f .width + x) * 6 + c < f .output
-  pixel-in valid row = omega (arith, valid .output-is, row-fits y (f .height) (f .width) row)
+  pub pixel-in : Valid f → y < f .height → (y * f .width + x) * bytesOf (f .mono) + c < f .output
+  pixel-in valid row =
+      let pixel : y * f .width + x < f .width * f .height = omega (arith, row-fits y (f .height) (f .width) row) in
+      rw (valid .output-is) (grouped-in (f .width * f .height) (bytesOf (f .mono)) (y * f .width + x) c pixel byte)
 
   -- in any picture it is one of its segment's bytes
   pub pixel-at : Valid f → y < f .height → (new : ℕ → List ℕ)
-      → getD (pictureOf f new) ((y * f .width + x) * 6 + c) 0
-      ≡ getD (new (segmentOf (f .«block_width») (f .«block_height») (f .across) x y)) (localOf 6 (f .«block_width») (f .«block_height») x y c) 0
+      → getD (pictureOf f new) ((y * f .width + x) * bytesOf (f .mono) + c) 0
+      ≡ getD (new (segmentOf (f .«block_width») (f .«block_height») (f .across) x y))
+      (localOf (bytesOf (f .mono)) (f .«block_width») (f .«block_height») x y c) 0
   pixel-at valid row new = picture-at f new _ (pixel-in valid row) ∙ rw (pixel-segment, pixel-local)

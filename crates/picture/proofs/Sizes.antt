@@ -4,8 +4,10 @@ use mathlib.Core.Path.{_≡_, refl, ap, _∙_}
 use native.Mathlib.Omega.{arith}
 use native.Mathlib.Nat.{mul-le-mul-left}
 use borrow.Author.Needs.{needs}
+use Rattle.head.specs.Heads.{planesOf}
 use Rattle.geometry.specs.Geometry.{mostSide}
 use Rattle.geometry.specs.Inner.{Cut}
+use Rattle.geometry.specs.Costs.{neededFor, scratchFor}
 use Rattle.geometry.proofs.Cutting.{cut-of, rows-le}
 use Rattle.picture.specs.declared.Format.{Format}
 use Rattle.picture.specs.Picture.{rowsIn, areaOf, neededOf, scratchOf}
@@ -25,10 +27,16 @@ module _ (f : Format) (ok : Valid f) where
 pub area-is : (f : Format) (k rows : ℕ) → rows ≡ rowsIn f k → {r : ℕ} → r ≡ f .«block_width» * rows → r ≡ areaOf f k
 area-is f k rows e q = q ∙ ap (λ (n : ℕ). f .«block_width» * n) e
 
-pub ruleset sizes = (segment-cut, rows-low, rows-allowed, area-is, needs)
+pub needed-is : (f : Format) (k area : ℕ) → area ≡ areaOf f k → {r : ℕ} → r ≡ neededFor (f .mono) area → r ≡ neededOf f k
+needed-is f k area e q = q ∙ ap (neededFor (f .mono)) e
+
+pub scratch-is : (f : Format) (area : ℕ) → area ≡ f .«block_width» * f .«block_height» → {r : ℕ} → r ≡ scratchFor (f .mono) area → r ≡ scratchOf f
+scratch-is f area e q = q ∙ ap (scratchFor (f .mono)) e
+
+pub ruleset sizes = (segment-cut, rows-low, rows-allowed, area-is, needed-is, scratch-is, needs)
 
 -- what a segment's packets fill is within the scratch of a block
 pub needed-in-scratch : (f : Format) (k : ℕ) → neededOf f k ≤ scratchOf f
 needed-in-scratch f k =
     let h : areaOf f k ≤ f .«block_width» * f .«block_height» = mul-le-mul-left (f .«block_width») (rows-low f k (rowsIn f k) refl) in
-    omega arith
+    omega (arith, mul-le-mul-left (planesOf (f .mono)) h)

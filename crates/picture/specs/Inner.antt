@@ -3,6 +3,7 @@ use Prim.Native.Nat.{ℕ, _+_, _-_, _*_, _/_, _%_, _<_, _≤_}
 use mathlib.Core.Path.{_≡_}
 use mathlib.Core.Bool.{false}
 use Rattle.lists.specs.Lists.{lesser}
+use Rattle.head.specs.Heads.{bytesOf}
 use Rattle.seen.specs.Seen.{Seen, There}
 use Rattle.geometry.specs.Geometry.{pieces, mostSide}
 use Rattle.entries.specs.Values.{countAt}
@@ -21,7 +22,7 @@ pub record Valid (f : Format) : Type 0 where
   pub block-height-allowed : f .«block_height» ≤ mostSide
   pub across-is : f .across ≡ pieces (f .width) (f .«block_width»)
   pub segments-are : f .segments ≡ f .across * pieces (f .height) (f .«block_height»)
-  pub output-is : f .output ≡ 6 * (f .width * f .height)
+  pub output-is : f .output ≡ bytesOf (f .mono) * (f .width * f .height)
 
 -- and its two entries, with an offset and a count for each segment
 pub record Readable (v : Seen) (f : Format) : Type 0 where
@@ -43,5 +44,5 @@ unfoldable pub visibleOf : Format → ℕ → Visible
 visibleOf f k = record {
   columns = lesser (f .width - leftOf f k) (f .«block_width»);
   rows = lesser (f .height - topOf f k) (f .«block_height»);
-  first = 6 * (topOf f k * f .width + leftOf f k);
+  first = bytesOf (f .mono) * (topOf f k * f .width + leftOf f k);
 }

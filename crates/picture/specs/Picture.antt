@@ -5,6 +5,7 @@ use mathlib.Core.List.{List}
 use lib.ListN.{length, getD}
 use lib.Dec.{ltb, eqb}
 use Rattle.lists.specs.Lists.{pick, tabulate}
+use Rattle.head.specs.Heads.{bytesOf}
 use Rattle.geometry.specs.Geometry.{rowsOf, byteSegment, byteLocal}
 use Rattle.geometry.specs.Costs.{neededFor, scratchFor}
 use Rattle.picture.specs.declared.Format.{Format}
@@ -20,19 +21,19 @@ module _ (f : Format) (k : ℕ) where
 
   -- the bytes that its packets must fill (rule 4.4)
   abbrev pub neededOf : ℕ
-  neededOf = neededFor areaOf
+  neededOf = neededFor (f .mono) areaOf
 
--- the largest 10A, which is that of a whole block (rule 7.3)
+-- the largest (p + b)A, which is that of a whole block (rule 7.3)
 abbrev pub scratchOf : Format → ℕ
-scratchOf f = scratchFor (f .«block_width» * f .«block_height»)
+scratchOf f = scratchFor (f .mono) (f .«block_width» * f .«block_height»)
 
 module _ (f : Format) where
   -- the segment of an output byte, and its place among that segment's bytes (rule 6.5)
   abbrev pub segmentAt : ℕ → ℕ
-  segmentAt q = byteSegment 6 (f .width) (f .«block_width») (f .«block_height») (f .across) q
+  segmentAt q = byteSegment (bytesOf (f .mono)) (f .width) (f .«block_width») (f .«block_height») (f .across) q
 
   abbrev pub localAt : ℕ → ℕ
-  localAt q = byteLocal 6 (f .width) (f .«block_width») (f .«block_height») q
+  localAt q = byteLocal (bytesOf (f .mono)) (f .width) (f .«block_width») (f .«block_height») q
 
   -- a picture that shows these bytes in each segment (rule 6.5)
   unfoldable pub pictureOf : (ℕ → List ℕ) → List ℕ

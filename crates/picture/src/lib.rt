@@ -3,24 +3,26 @@ ghost use mathlib.Core.Path.{_≡_};
 ghost use Prim.Native.Nat.{_<_, _≤_};
 ghost use Rattle.lists.specs.Lists.{lesser};
 ghost use Rattle.geometry.specs.Geometry.{mostArea};
-ghost use Rattle.picture.specs.Picture.{rowsIn, areaOf, scratchOf};
+ghost use Rattle.picture.specs.Picture.{rowsIn, areaOf, neededOf, scratchOf};
 ghost use Rattle.picture.specs.Inner.{Valid, visibleOf};
 
-// A picture as its page's directory describes it: sizes, the file's byte order, the places of the entries that hold the
-// segments' offsets and counts, and the number of the directory's entries.
+// A picture as its page's directory describes it: sizes, the places of the entries that hold the segments' offsets and counts,
+// the number of the directory's entries; tiles or strips, the file's byte order and the head that made it. These three stand
+// together, as a format that is handed on then takes less of the stack.
 pub struct Format {
     pub width: usize,
     pub height: usize,
     pub block_width: usize,
     pub block_height: usize,
-    pub tiled: bool,
     pub across: usize,
     pub segments: usize,
     pub output: usize,
-    pub big: bool,
     pub offsets: usize,
     pub counts: usize,
     pub entries: usize,
+    pub tiled: bool,
+    pub big: bool,
+    pub mono: bool,
 }
 
 // The part of a segment that lies in the picture: its columns and rows, and the output byte that it begins with.
@@ -51,6 +53,15 @@ pub fn area_of(format: Format, k: usize) -> usize
     geometry::area(block_width, rows_in(format, k))
 }
 
+// The bytes that its packets must fill.
+pub fn needed_of(format: Format, k: usize) -> usize
+    requires { ⌜ Valid format × (k < format .segments) ⌝ }
+    ensures { λ r. ⌜ r ≡ neededOf format k ⌝ }
+{
+    let mono = format.mono;
+    geometry::needed_for(mono, area_of(format, k))
+}
+
 // The scratch that the segments of a format need, by way of which they are shown.
 pub fn scratch_of(format: Format) -> usize
     requires { ⌜ Valid format ⌝ }
@@ -58,7 +69,8 @@ pub fn scratch_of(format: Format) -> usize
 {
     let block_width = format.block_width;
     let block_height = format.block_height;
-    geometry::scratch_for(geometry::area(block_width, block_height))
+    let mono = format.mono;
+    geometry::scratch_for(mono, geometry::area(block_width, block_height))
 }
 
 fn lesser_of(a: usize, b: usize) -> usize
@@ -78,7 +90,8 @@ pub fn visible_of(format: Format, k: usize) -> Visible
     let start = k % across * format.block_width;
     let columns = lesser_of(width - start, format.block_width);
     let rows = lesser_of(format.height - top, format.block_height);
-    let first = 6 * (top * width + start);
+    let mono = format.mono;
+    let first = head::bytes_of(mono) * (top * width + start);
     Visible {
         columns: columns,
         rows: rows,

@@ -1,8 +1,10 @@
-// Luv samples: uv, one pixel, and a row of pixels. Nothing else computes uv.
+// Pixels of either head: uv, one pixel, and a row of pixels. Nothing else computes uv.
 ghost use mathlib.Core.Path.{_≡_};
-ghost use Prim.Native.Nat.{_*_, _<_, _≤_};
+ghost use Prim.Native.Nat.{_<_};
 ghost use lib.ListN.{length};
-ghost use Rattle.pixel.specs.Luv.{uv, pixel, rowPixels};
+ghost use Rattle.head.specs.Heads.{colourHead, monoHead};
+ghost use Rattle.pixel.specs.Luv.{uv, monoPixel, pixel, rowPixels};
+ghost use Rattle.pixel.specs.Inner.{Convertible};
 
 fn wide(x: u8) -> u32
     ensures { λ r. ⌜ (r ≡ x) × (r < 256) ⌝ }
@@ -31,10 +33,18 @@ fn put_pixel(d: &mut [u8], high: u8, low: u8, u: u8, v: u8)
     d[5] = (b / 256) as u8;
 }
 
-// The first n pixels of a row of four planes of w bytes.
-pub fn convert_row(planes: &[u8], w: usize, n: usize, out: &mut [u8])
-    requires { ⌜ (4 * w ≤ length (now planes)) × (n ≤ w) × (length (now out) ≡ 6 * n) ⌝ }
-    ensures { λ _. ⌜ now (out .exit) ≡ rowPixels w n (now (planes .entry)) ⌝ }
+fn put_mono(pair: &mut [u8], high: u8, low: u8)
+    requires { ⌜ length (now pair) ≡ 2 ⌝ }
+    ensures { λ _. ⌜ now (pair .exit) ≡ monoPixel high low ⌝ }
+{
+    pair[0] = low;
+    pair[1] = high;
+}
+
+// One loop for each head, as the compiler then makes the best code of both: the first n pixels of a row of planes of w bytes.
+fn colour_row(planes: &[u8], w: usize, n: usize, out: &mut [u8])
+    requires { ⌜ Convertible colourHead w n (length (now planes)) (length (now out)) ⌝ }
+    ensures { λ _. ⌜ now (out .exit) ≡ rowPixels colourHead w n (now (planes .entry)) ⌝ }
 {
     let mut i: usize = 0;
     let mut o: usize = 0;
@@ -49,5 +59,31 @@ pub fn convert_row(planes: &[u8], w: usize, n: usize, out: &mut [u8])
         );
         i += 1;
         o = e;
+    }
+}
+
+fn mono_row(planes: &[u8], w: usize, n: usize, out: &mut [u8])
+    requires { ⌜ Convertible monoHead w n (length (now planes)) (length (now out)) ⌝ }
+    ensures { λ _. ⌜ now (out .exit) ≡ rowPixels monoHead w n (now (planes .entry)) ⌝ }
+{
+    let mut i: usize = 0;
+    let mut o: usize = 0;
+    while i < n {
+        let e = o + 2;
+        put_mono(&mut out[o..e], planes[i], planes[w + i]);
+        i += 1;
+        o = e;
+    }
+}
+
+// The first n pixels of a row of planes of w bytes.
+pub fn convert_row(mono: bool, planes: &[u8], w: usize, n: usize, out: &mut [u8])
+    requires { ⌜ Convertible mono w n (length (now planes)) (length (now out)) ⌝ }
+    ensures { λ _. ⌜ now (out .exit) ≡ rowPixels mono w n (now (planes .entry)) ⌝ }
+{
+    if mono {
+        mono_row(planes, w, n, out);
+    } else {
+        colour_row(planes, w, n, out);
     }
 }

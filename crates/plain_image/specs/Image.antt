@@ -5,6 +5,7 @@ use mathlib.Core.Bool.{false}
 use mathlib.Core.List.{List, [], _∷_}
 use lib.Dec.{eqb}
 use lib.ListN.{length}
+use Rattle.head.specs.Heads.{colourHead}
 use Rattle.checks.specs.Numbers.{invalid, toldNumber, toldLeft}
 use Rattle.checks.specs.Checks.{Check, must, run, onPass}
 use Rattle.checks.specs.declared.Told.{Told}
@@ -19,7 +20,7 @@ use Rattle.handle.specs.declared.Inspected.{Inspected}
 use Rattle.handle.specs.declared.Inspected.the-variants as inspected-is
 use Rattle.image_info.specs.declared.Info.{Info}
 
--- what stands where nothing was accepted: every number 0
+-- what stands where nothing was accepted: every number 0, and the head that channels of 3 stand for (rule 7.7)
 abbrev pub noLimits : Limits
 noLimits = record { «max_input» = 0; «max_output» = 0; «max_dimension» = 0; «max_directories» = 0; «max_tags» = 0; «max_segments» = 0 }
 
@@ -37,6 +38,7 @@ noFormat = record {
   offsets = 0;
   counts = 0;
   entries = 0;
+  mono = colourHead;
 }
 
 abbrev pub noHandle : Handle

@@ -38,6 +38,7 @@ fn refused_with(number: u8) -> Info
         offsets: 0,
         counts: 0,
         entries: 0,
+        mono: false,
     };
     let handle = Handle {
         format: format,

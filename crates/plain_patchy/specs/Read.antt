@@ -12,7 +12,7 @@ use Rattle.plain_patchy.specs.declared.Answer.{Answer}
 
 -- the answer: 0 and the picture's sizes; after a refusal its number, and every size is 0 (rules 8.9 and 7.7)
 abbrev pub noSizes : Sizes
-noSizes = record { width = 0; height = 0; «block_width» = 0; «block_height» = 0; segments = 0 }
+noSizes = record { width = 0; height = 0; «block_width» = 0; «block_height» = 0; segments = 0; channels = 0 }
 
 abbrev pub answerOf : Reading → Answer
 answerOf (reading-is.Picture s left) = record { number = 0; sizes = s }

@@ -26,6 +26,7 @@ fn no_sizes() -> Sizes
         block_width: 0,
         block_height: 0,
         segments: 0,
+        channels: 0,
     }
 }
 

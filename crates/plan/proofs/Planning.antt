@@ -142,7 +142,7 @@ module _ (v : Seen) (f : Format) (m k : ℕ) {r : Place} (er : r ≡ placeIs v f
   unfolding planChecks
   place-refused e q = rw (verdict-stops (placeChecks v f k) (areaChecks v f m k) e (not-located v f k er e q))
 
-  module _ (offset count area room : ℕ) (q : r ≡ place-is.Range offset count) (ea : area ≡ areaOf f k) (em : room ≡ scratchFor area) where
+  module _ (offset count area room : ℕ) (q : r ≡ place-is.Range offset count) (ea : area ≡ areaOf f k) (em : room ≡ scratchFor (f .mono) area) where
     here : Located v f k offset count
     here = located v f k er offset count q
 
@@ -153,29 +153,29 @@ module _ (v : Seen) (f : Format) (m k : ℕ) {r : Place} (er : r ≡ placeIs v f
     pub room-short : m < room → planned-is.Refused limit ≡ planIs v f m k
     unfolding areaChecks
     room-short h =
-        let a : m < scratchFor (areaOf f k) = rw (em, ea) at h in
+        let a : m < scratchFor (f .mono) (areaOf f k) = rw (em, ea) at h in
         let b : verdict-is.Refused limit ≡ verdict (areaChecks v f m k) = search verdicts in
         rw (place-passed, ← b)
 
-    module _ (h : room ≤ m) {s : Size} (es : s ≡ within (fee count area)) where
-      room-enough : scratchFor (areaOf f k) ≤ m
+    module _ (h : room ≤ m) {s : Size} (es : s ≡ within (fee (f .mono) count area)) where
+      room-enough : scratchFor (f .mono) (areaOf f k) ≤ m
       room-enough = rw (em, ea) at h
 
-      fee-is : fee count area ≡ feeOf v f k
+      fee-is : fee (f .mono) count area ≡ feeOf v f k
       fee-is = rw (← here .count-is, ← ea)
 
       pub fee-over : s ≡ size-is.Over → planned-is.Refused limit ≡ planIs v f m k
       unfolding areaChecks
       fee-over z =
           let a = room-enough in
-          let d : most64 < feeOf v f k = rw fee-is at (over-is (fee count area) es z) in
+          let d : most64 < feeOf v f k = rw fee-is at (over-is (fee (f .mono) count area) es z) in
           let b : verdict-is.Refused limit ≡ verdict (areaChecks v f m k) = search verdicts in
           rw (place-passed, ← b)
 
       pub fee-fits : (n : ℕ) → s ≡ size-is.Fits n → planned-is.Fine (record { offset = offset; count = count; fee = n }) ≡ planIs v f m k
       unfolding areaChecks
       fee-fits n z =
-          let t = fits-is (fee count area) n es z in
+          let t = fits-is (fee (f .mono) count area) n es z in
           let a = room-enough in
           let d : feeOf v f k ≤ most64 = rw fee-is at (t .small) in
           let b : verdict-is.Fine ≡ verdict (areaChecks v f m k) = search verdicts in

@@ -57,15 +57,15 @@ module _ (v : Seen) (f : Format) (k : ℕ) where
 
   -- what it costs (rule 5.3)
   abbrev pub feeOf : ℕ
-  feeOf = fee countOf (areaOf f k)
+  feeOf = fee (f .mono) countOf (areaOf f k)
 
   abbrev pub planOf : Plan
   planOf = record { offset = offsetOf; count = countOf; fee = feeOf }
 
 module _ (v : Seen) (f : Format) (maxOutput k : ℕ) where
-  -- 10A within max_output, the fee within 2^64-1 (rules 4.2 d and e)
+  -- (p + b)A within max_output, the fee within 2^64-1 (rules 4.2 d and e)
   unfoldable pub areaChecks : List Check
-  areaChecks = must (leb (scratchFor (areaOf f k)) maxOutput) limit ∷ must (leb (feeOf v f k) most64) limit ∷ []
+  areaChecks = must (leb (scratchFor (f .mono) (areaOf f k)) maxOutput) limit ∷ must (leb (feeOf v f k) most64) limit ∷ []
 
   unfoldable pub planChecks : List Check
   planChecks = placeChecks v f k ++ areaChecks

@@ -71,11 +71,12 @@ pub fn plan_segment(file: &[u8], map: &[u8], format: Format, max_output: usize, 
         Place::Refused(e) => Planned::Refused(e),
         Place::Range(offset, count) => {
             let area = picture::area_of(format, k);
-            let scratch = geometry::scratch_for(area);
+            let mono = format.mono;
+            let scratch = geometry::scratch_for(mono, area);
             if max_output < scratch {
                 return Planned::Refused(LIMIT);
             }
-            match geometry::fee_of(count, area) {
+            match geometry::fee_of(mono, count, area) {
                 Size::Over => Planned::Refused(LIMIT),
                 Size::Fits(fee) => Planned::Fine(Plan {
                     offset: offset,

@@ -3,10 +3,12 @@ use Prim.Native.Nat.{ℕ, _*_, _%_, _<_, _≤_}
 use mathlib.Core.Path.{_≡_, refl}
 use mathlib.Core.Logic.{_↔_, Iff·trans}
 use mathlib.Core.List.{List, _++_}
-use mathlib.Core.Bool.{Bool, true, false, not}
+use mathlib.Core.Bool.{Bool, true, false, not, _&&_, _||_}
+use lib.Dec.{eqb}
 use native.Mathlib.Omega.{arith}
 use borrow.Author.Tests.{lt-ltb, ltb-true, leb-true, eqb-true, eqb-false, le-leb, eq-eqb}
 use Rattle.lists.proofs.Lesser.{lesser-min}
+use Rattle.head.specs.Heads.{Head, colourHead, monoHead, bytesOf, channelsOf, photometricOf}
 use Rattle.checks.specs.Checks.{verdict, Holds}
 use Rattle.checks.specs.declared.Verdict.the-variants as verdict-is
 use Rattle.checks.proofs.Exact.{fine, both}
@@ -17,8 +19,8 @@ use Rattle.tags.specs.Slots.{bitsPerSample, sampleFormat, stripOffsets, stripBy
 use Rattle.header.specs.declared.Limits.{Limits}
 use Rattle.picture.specs.Inner.{Valid}
 use Rattle.picture.specs.declared.Format.{Format}
-use Rattle.profile.specs.Profile.{step1, step2, step3, step4, step5, step6, step7, step8, numbersOf, shapeOf, shapeIn, segmentsOf, offsetsIn, countsIn, profileChecks, formatWith, formatOf}
-use Rattle.profile.specs.Accepted.{Carries, ThreeFine, KindFine, PlainFine, BlocksFine, TilesFine, StripsFine, ProfileFine}
+use Rattle.profile.specs.Profile.{kindIs, hasHead, headIn, step1, step2, step3, step4, step5, step6, step7, step8, numbersOf, shapeOf, shapeIn, segmentsOf, offsetsIn, countsIn, profileChecks, formatWith, formatOf}
+use Rattle.profile.specs.Accepted.{Carries, SamplesFine, KindFine, PlainFine, BlocksFine, TilesFine, StripsFine, ProfileFine}
 use Rattle.profile.specs.Inner.{from7, from5, from2}
 use Rattle.profile.specs.declared.Numbers.{Numbers}
 use Rattle.profile.specs.declared.Shape.{Shape}
@@ -30,6 +32,40 @@ pub profile-split : (v : Seen) (big : Bool) (slots : List ℕ) (l : Limits)
 unfolding profileChecks from2 from5 from7
 profile-split v big slots l = refl
 
+-- slots 4 and 8 are those of a head exactly if they are those of the head that they choose
+record OfHead (n : Numbers) (head : Head) : Type 0 where
+  photometric-is : n .photometric ≡ photometricOf head
+  samples-is : n .samples ≡ channelsOf head
+
+kind-is : (n : Numbers) (head : Head) → kindIs n head ≡ true → OfHead n head
+kind-is n head e = by (eqb (n .photometric) (photometricOf head)) (eqb (n .samples) (channelsOf head)) refl refl e
+  where
+    by : (a b : Bool) → eqb (n .photometric) (photometricOf head) ≡ a → eqb (n .samples) (channelsOf head) ≡ b → a && b ≡ true → OfHead n head
+    by true true p q t = record { photometric-is = eqb-true (n .photometric) (photometricOf head) p; samples-is = eqb-true (n .samples) (channelsOf head) q }
+    by true false p q t = absurd (true-false t refl)
+    by false b p q t = absurd (true-false t refl)
+
+is-kind : (n : Numbers) (head : Head) → OfHead n head → kindIs n head ≡ true
+is-kind n head h = rw (eq-eqb (n .photometric) (photometricOf head) (h .photometric-is), eq-eqb (n .samples) (channelsOf head) (h .samples-is))
+
+kind-chosen : (n : Numbers) → hasHead n ≡ true → OfHead n (headIn n)
+unfolding hasHead headIn
+kind-chosen n e = by (kindIs n colourHead) (kindIs n monoHead) refl refl e
+  where
+    by : (a b : Bool) → kindIs n colourHead ≡ a → kindIs n monoHead ≡ b → a || b ≡ true → OfHead n b
+    by a true p q t = kind-is n monoHead q
+    by true false p q t = kind-is n colourHead p
+    by false false p q t = absurd (true-false t refl)
+
+chosen-kind : (n : Numbers) → OfHead n (headIn n) → hasHead n ≡ true
+unfolding hasHead
+chosen-kind n h = by (headIn n) h (kindIs n colourHead) refl
+  where
+    by : (head : Head) → OfHead n head → (a : Bool) → kindIs n colourHead ≡ a → a || kindIs n monoHead ≡ true
+    by head h true p = refl
+    by true h false p = is-kind n monoHead h
+    by false h false p = absurd (true-false (is-kind n colourHead h) p)
+
 -- each step's list of checks and its record
 kind-fine : (n : Numbers) (m : ℕ) → Holds (step2 n m) ↔ KindFine n m
 unfolding Holds step2
@@ -39,9 +75,9 @@ kind-fine n m = (
     width-allowed = leb-true (n .width) m (h .1 .0);
     some-height = ltb-true 0 (n .height) (h .1 .1 .0);
     height-allowed = leb-true (n .height) m (h .1 .1 .1 .0);
-    samples-is = eqb-true (n .samples) 3 (h .1 .1 .1 .1 .0);
-    compression-is = eqb-true (n .compression) 34676 (h .1 .1 .1 .1 .1 .0);
-    photometric-is = eqb-true (n .photometric) 32845 (h .1 .1 .1 .1 .1 .1 .0);
+    compression-is = eqb-true (n .compression) 34676 (h .1 .1 .1 .1 .0);
+    photometric-is = kind-chosen n (h .1 .1 .1 .1 .1 .0) .photometric-is;
+    samples-is = kind-chosen n (h .1 .1 .1 .1 .1 .0) .samples-is;
   },
   λ f. (
     lt-ltb 0 (n .width) (f .some-width),
@@ -52,11 +88,8 @@ kind-fine n m = (
         (
           le-leb (n .height) m (f .height-allowed),
           (
-            eq-eqb (n .samples) 3 (f .samples-is),
-            (
-              eq-eqb (n .compression) 34676 (f .compression-is),
-              (eq-eqb (n .photometric) 32845 (f .photometric-is), tt),
-            ),
+            eq-eqb (n .compression) 34676 (f .compression-is),
+            (chosen-kind n (record { photometric-is = f .photometric-is; samples-is = f .samples-is }), tt),
           ),
         ),
       ),
@@ -134,7 +167,7 @@ module _ (n : Numbers) (slots : List ℕ) where
 -- steps 5 to 8
 module _ (v : Seen) (big : Bool) (slots : List ℕ) (n : Numbers) (l : Limits) where
   abbrev OutputAllowed : Type 0
-  OutputAllowed = 6 * (n .width * n .height) ≤ l .«max_output»
+  OutputAllowed = bytesOf (headIn n) * (n .width * n .height) ≤ l .«max_output»
 
   module _ (t : Bool) where
     abbrev s : Shape
@@ -146,8 +179,8 @@ module _ (v : Seen) (big : Bool) (slots : List ℕ) (n : Numbers) (l : Limits) w
     sizes-fine : Holds (step7 s (l .«max_segments») (l .«max_output»)) ↔ SizesAllowed
     unfolding Holds step7 shapeOf
     sizes-fine = (
-      λ h. (leb-true (segmentsOf s) (l .«max_segments») (h .0), leb-true (6 * (n .width * n .height)) (l .«max_output») (h .1 .0)),
-      λ p. (le-leb (segmentsOf s) (l .«max_segments») (p .0), (le-leb (6 * (n .width * n .height)) (l .«max_output») (p .1), tt)),
+      λ h. (leb-true (segmentsOf s) (l .«max_segments») (h .0), leb-true (bytesOf (headIn n) * (n .width * n .height)) (l .«max_output») (h .1 .0)),
+      λ p. (le-leb (segmentsOf s) (l .«max_segments») (p .0), (le-leb (bytesOf (headIn n) * (n .width * n .height)) (l .«max_output») (p .1), tt)),
     )
 
     abbrev Lists : Type 0
@@ -226,17 +259,18 @@ module _ (v : Seen) (big : Bool) (slots : List ℕ) (n : Numbers) (l : Limits) w
 
   -- steps 2 to 8
   abbrev Samples : Type 0
-  Samples = ThreeFine v big (entryIn slots bitsPerSample) 16 × ThreeFine v big (entryIn slots sampleFormat) 2
+  Samples =
+      SamplesFine v big (channelsOf (headIn n)) (entryIn slots bitsPerSample) 16 × SamplesFine v big (channelsOf (headIn n)) (entryIn slots sampleFormat) 2
 
   rest-fine : Holds (from2 v big slots n l) ↔ (KindFine n (l .«max_dimension») × (PlainFine n (entryIn slots extraSamples) × (Samples × LayoutFine)))
   unfolding from2
   rest-fine =
       let extra = entryIn slots extraSamples in
-      let four = step4 v big slots in
+      let four = step4 v big (channelsOf (headIn n)) slots in
       let five = from5 v big slots (shapeIn slots n) l in
       both (step2 n (l .«max_dimension»)) (step3 n extra ++ (four ++ five)) (kind-fine n (l .«max_dimension»))
       (both (step3 n extra) (four ++ five) (plain-fine n extra)
-      (both four five (samples-fine v big slots) layout-fine))
+      (both four five (samples-fine v big (channelsOf (headIn n)) slots) layout-fine))
 
 -- the whole profile
 module _ (v : Seen) (big : Bool) (slots : List ℕ) (l : Limits) where

@@ -1,11 +1,12 @@
 -- The profile's tables against rules 3.1 and 2.10, and its answer: the number is that of the checks, which charge nothing.
 use Prim.Native.Nat.{ℕ}
 use mathlib.Core.Path.{_≡_, refl}
-use mathlib.Core.List.{List, [], _∷_, map}
+use mathlib.Core.List.{List, [], _∷_, _++_, map}
 use mathlib.Core.Bool.{Bool, true, false, _||_}
 use lib.ListN.{getD}
 use lib.Dec.{eqb}
 use Rattle.lists.specs.Lists.{pick}
+use Rattle.head.specs.Heads.{Head, channelsOf}
 use Rattle.checks.specs.Numbers.{verdictNumber}
 use Rattle.checks.specs.Checks.{cost}
 use Rattle.checks.specs.declared.Verdict.{Verdict}
@@ -14,7 +15,7 @@ use Rattle.seen.specs.Seen.{Seen}
 use Rattle.tags.specs.Slots.{tileOffsets, defaults, entryIn, present}
 use Rattle.header.specs.declared.Limits.{Limits}
 use Rattle.picture.specs.declared.Format.{Format}
-use Rattle.profile.specs.Profile.{scalars, scalarChecks, step2, step3, eachIs, threeChecks, step4, step5, step6, step7, step8, numbersOf, shapeOf, profileChecks, profiled, profileNumber}
+use Rattle.profile.specs.Profile.{scalars, scalarChecks, step2, step3, eachIs, sampleChecks, step4, step5, step6, step7, step8, numbersOf, headIn, shapeOf, shapeIn, profileChecks, profiled, profileNumber}
 use Rattle.profile.specs.Inner.{from7, from5}
 use Rattle.profile.specs.declared.Numbers.{Numbers}
 
@@ -46,5 +47,9 @@ blocks-free v big slots l n true = refl
 blocks-free v big slots l n false = refl
 
 pub profile-free : (v : Seen) (big : Bool) (slots : List ℕ) (l : Limits) → cost (profileChecks v big slots l) ≡ 0
-unfolding cost profileChecks scalarChecks scalars step2 step3 step4 threeChecks eachIs from5 from7
-profile-free v big slots l = blocks-free v big slots l (numbersOf v big slots) (present (entryIn slots tileOffsets))
+unfolding cost profileChecks scalarChecks scalars step2 step3 step4 sampleChecks eachIs from5 from7
+profile-free v big slots l = by (headIn (numbersOf v big slots))
+  where
+    by : (head : Head) → cost (step4 v big (channelsOf head) slots ++ from5 v big slots (shapeIn slots (numbersOf v big slots)) l) ≡ 0
+    by false = blocks-free v big slots l (numbersOf v big slots) (present (entryIn slots tileOffsets))
+    by true = blocks-free v big slots l (numbersOf v big slots) (present (entryIn slots tileOffsets))

@@ -18,8 +18,8 @@ use Rattle.seen.proofs.Words.{there-holds, holds-there}
 use Rattle.tags.specs.Slots.{bitsPerSample, sampleFormat, entryIn}
 use Rattle.tags.specs.Tags.{typeAt}
 use Rattle.entries.specs.Values.{countAt, numeric, hasValues, sizeOf, placeOf, valueAt}
-use Rattle.profile.specs.Profile.{carries, scalars, scalarFine, scalarChecks, step1, eachIs, threeChecks, step4, step8}
-use Rattle.profile.specs.Accepted.{Carries, ThreeFine}
+use Rattle.profile.specs.Profile.{carries, scalars, scalarFine, scalarChecks, step1, eachIs, sampleChecks, step4, step8}
+use Rattle.profile.specs.Accepted.{Carries, SamplesFine}
 
 -- tests in numbers
 pos-absent : (e : ℕ) → 0 < e → eqb e 0 ≡ false
@@ -101,29 +101,29 @@ module _ (v : Seen) (big : Bool) where
         }),
       )
 
-  three-fine : (e wanted : ℕ) → Holds (threeChecks v big e wanted) ↔ ThreeFine v big e wanted
-  unfolding Holds threeChecks
-  three-fine e wanted = (
+  sample-fine : (n e wanted : ℕ) → Holds (sampleChecks v big n e wanted) ↔ SamplesFine v big n e wanted
+  unfolding Holds sampleChecks
+  sample-fine n e wanted = (
     λ h.
-        let each = each-is-fine e wanted 3 0 (h .1) in
+        let each = each-is-fine e wanted n 0 (h .1) in
         record {
-          three = carries-is e 3 (h .0);
+          as-many = carries-is e n (h .0);
           each-there = λ i l. each .is-there i (omega arith) (omega arith);
           each-is = λ i l. each .is-wanted i (omega arith) (omega arith);
         },
     λ f. (
-      is-carried e 3 (f .three),
-      each-passes e wanted 3 0 (record { is-there = λ j a b. f .each-there j (omega arith); is-wanted = λ j a b. f .each-is j (omega arith) }),
+      is-carried e n (f .as-many),
+      each-passes e wanted n 0 (record { is-there = λ j a b. f .each-there j (omega arith); is-wanted = λ j a b. f .each-is j (omega arith) }),
     ),
   )
 
-  pub samples-fine : (slots : List ℕ)
-      → Holds (step4 v big slots) ↔ (ThreeFine v big (entryIn slots bitsPerSample) 16 × ThreeFine v big (entryIn slots sampleFormat) 2)
+  pub samples-fine : (n : ℕ) (slots : List ℕ)
+      → Holds (step4 v big n slots) ↔ (SamplesFine v big n (entryIn slots bitsPerSample) 16 × SamplesFine v big n (entryIn slots sampleFormat) 2)
   unfolding step4
-  samples-fine slots =
+  samples-fine n slots =
       let bits = entryIn slots bitsPerSample in
       let formats = entryIn slots sampleFormat in
-      both (threeChecks v big bits 16) (threeChecks v big formats 2) (three-fine bits 16) (three-fine formats 2)
+      both (sampleChecks v big n bits 16) (sampleChecks v big n formats 2) (sample-fine n bits 16) (sample-fine n formats 2)
 
   -- a scalar slot
   module _ (slots : List ℕ) where

@@ -6,13 +6,14 @@ use mathlib.Core.List.{List}
 use mathlib.Core.Bool.{Bool}
 use lib.ListN.{getD}
 use Rattle.lists.specs.Lists.{lesser}
+use Rattle.head.specs.Heads.{bytesOf, channelsOf, photometricOf}
 use Rattle.seen.specs.Seen.{Seen, There}
 use Rattle.tags.specs.Slots.{bitsPerSample, stripOffsets, stripByteCounts, tileWidth, tileLength, tileOffsets, tileByteCounts, extraSamples, sampleFormat, entryIn}
 use Rattle.tags.specs.Tags.{typeAt}
 use Rattle.entries.specs.Values.{countAt, sizeOf, placeOf, valueAt}
 use Rattle.geometry.specs.Geometry.{pieces, mostSide}
 use Rattle.header.specs.declared.Limits.{Limits}
-use Rattle.profile.specs.Profile.{scalars, numbersOf}
+use Rattle.profile.specs.Profile.{scalars, numbersOf, headIn}
 use Rattle.profile.specs.declared.Numbers.{Numbers}
 
 module _ (v : Seen) (big : Bool) where
@@ -22,11 +23,11 @@ module _ (v : Seen) (big : Bool) where
     pub typed : (typeAt v big e ≡ 3) ⊎ (typeAt v big e ≡ 4)
     pub as-many : countAt v big e ≡ n
 
-  -- three values, each of them there and this number
-  pub record ThreeFine (e wanted : ℕ) : Type 0 where
-    pub three : Carries e 3
-    pub each-there : (i : ℕ) → i < 3 → There v (placeOf v big e i) (sizeOf v big e)
-    pub each-is : (i : ℕ) → i < 3 → valueAt v big e i ≡ wanted
+  -- a value for each sample, each of them there and this number
+  pub record SamplesFine (samples e wanted : ℕ) : Type 0 where
+    pub as-many : Carries e samples
+    pub each-there : (i : ℕ) → i < samples → There v (placeOf v big e i) (sizeOf v big e)
+    pub each-is : (i : ℕ) → i < samples → valueAt v big e i ≡ wanted
 
 -- the picture's sides, and the kind of its samples
 pub record KindFine (n : Numbers) (maxDimension : ℕ) : Type 0 where
@@ -34,9 +35,9 @@ pub record KindFine (n : Numbers) (maxDimension : ℕ) : Type 0 where
   pub width-allowed : n .width ≤ maxDimension
   pub some-height : 0 < n .height
   pub height-allowed : n .height ≤ maxDimension
-  pub samples-is : n .samples ≡ 3
   pub compression-is : n .compression ≡ 34676
-  pub photometric-is : n .photometric ≡ 32845
+  pub photometric-is : n .photometric ≡ photometricOf (headIn n)
+  pub samples-is : n .samples ≡ channelsOf (headIn n)
 
 -- nothing out of the ordinary, and no entry for extra samples
 pub record PlainFine (n : Numbers) (extra : ℕ) : Type 0 where
@@ -70,13 +71,13 @@ module _ (v : Seen) (big : Bool) (n : Numbers) (l : Limits) where
     pub no-tile-counts : entryIn slots tileByteCounts ≡ 0
     pub blocks : BlocksFine (n .width) (lesser (n .«strip_rows») (n .height)) (entryIn slots stripOffsets) (entryIn slots stripByteCounts)
 
--- each scalar slot is absent or has one number, samples are three of 16 bits and of format 2, and there are tiles exactly if slot 15 is present
+-- each scalar slot is absent or has one number, the head's samples are of 16 bits and of format 2, and there are tiles exactly if slot 15 is present
 pub record ProfileFine (v : Seen) (big : Bool) (slots : List ℕ) (l : Limits) : Type 0 where
   pub one-number : (i : ℕ) → i < 13 → (entryIn slots (getD scalars i 0) ≡ 0) ⊎ Carries v big (entryIn slots (getD scalars i 0)) 1
   pub kind : KindFine (numbersOf v big slots) (l .«max_dimension»)
   pub plain : PlainFine (numbersOf v big slots) (entryIn slots extraSamples)
-  pub bits : ThreeFine v big (entryIn slots bitsPerSample) 16
-  pub formats : ThreeFine v big (entryIn slots sampleFormat) 2
+  pub bits : SamplesFine v big (channelsOf (headIn (numbersOf v big slots))) (entryIn slots bitsPerSample) 16
+  pub formats : SamplesFine v big (channelsOf (headIn (numbersOf v big slots))) (entryIn slots sampleFormat) 2
   pub tiles : (entryIn slots tileOffsets ≡ 0 → ⊥) → TilesFine v big (numbersOf v big slots) l slots
   pub strips : entryIn slots tileOffsets ≡ 0 → StripsFine v big (numbersOf v big slots) l slots
-  pub output-allowed : 6 * (numbersOf v big slots .width * numbersOf v big slots .height) ≤ l .«max_output»
+  pub output-allowed : bytesOf (headIn (numbersOf v big slots)) * (numbersOf v big slots .width * numbersOf v big slots .height) ≤ l .«max_output»

@@ -2,11 +2,12 @@
 use Prim.Native.Nat.{ℕ, _<_}
 use mathlib.Core.List.{List, _++_}
 use mathlib.Core.Bool.{Bool}
+use Rattle.head.specs.Heads.{channelsOf}
 use Rattle.checks.specs.Checks.{Check, verdict}
 use Rattle.seen.specs.Seen.{Seen}
 use Rattle.tags.specs.Slots.{extraSamples, entryIn}
 use Rattle.header.specs.declared.Limits.{Limits}
-use Rattle.profile.specs.Profile.{step2, step3, step4, step5, step6, step7, step8, shapeIn, offsetsIn, countsIn, segmentsOf, profiled, formatWith}
+use Rattle.profile.specs.Profile.{step2, step3, step4, step5, step6, step7, step8, headIn, shapeIn, offsetsIn, countsIn, segmentsOf, profiled, formatWith}
 use Rattle.profile.specs.declared.Numbers.{Numbers}
 use Rattle.profile.specs.declared.Shape.{Shape}
 use Rattle.profile.specs.declared.Profile.{Profile}
@@ -42,7 +43,7 @@ module _ (v : Seen) (big : Bool) (slots : List ℕ) where
   from2 n l =
       step2 n (l .«max_dimension») ++
       (step3 n (entryIn slots extraSamples) ++
-      (step4 v big slots ++ from5 (shapeIn slots n) l))
+      (step4 v big (channelsOf (headIn n)) slots ++ from5 (shapeIn slots n) l))
 
 -- and what these leave
 module _ (v : Seen) (big : Bool) (entries : ℕ) (slots : List ℕ) where

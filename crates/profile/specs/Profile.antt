@@ -6,6 +6,7 @@ use mathlib.Core.Bool.{Bool, _&&_, _||_}
 use lib.ListN.{getD}
 use lib.Dec.{ltb, leb, eqb}
 use Rattle.lists.specs.Lists.{pick, lesser}
+use Rattle.head.specs.Heads.{Head, colourHead, monoHead, bytesOf, channelsOf, photometricOf}
 use Rattle.checks.specs.Numbers.{invalid, unsupported, limit}
 use Rattle.checks.specs.Checks.{Check, must, verdict}
 use Rattle.checks.specs.declared.Verdict.{Verdict}
@@ -64,17 +65,25 @@ module _ (v : Seen) (big : Bool) (slots : List ℕ) where
     «tile_height» = slotNumber tileLength;
   }
 
--- Step 2 (rule 3.2): the picture has sides, which max_dimension allows, and its samples, compression and photometric interpretation are those of a
--- LogLuv picture. Refused with 3.
+-- Step 2 (rule 3.2): the picture has sides, which max_dimension allows, its compression is SGILog, and slots 4 and 8 are together those of a head.
+-- Refused with 3.
+abbrev pub kindIs : Numbers → Head → Bool
+kindIs n head = eqb (n .photometric) (photometricOf head) && eqb (n .samples) (channelsOf head)
+
+unfoldable pub hasHead : Numbers → Bool
+hasHead n = kindIs n colourHead || kindIs n monoHead
+
+unfoldable pub headIn : Numbers → Head
+headIn n = kindIs n monoHead
+
 unfoldable pub step2 : Numbers → ℕ → List Check
 step2 n maxDimension =
     must (ltb 0 (n .width)) unsupported ∷
     must (leb (n .width) maxDimension) unsupported ∷
     must (ltb 0 (n .height)) unsupported ∷
     must (leb (n .height) maxDimension) unsupported ∷
-    must (eqb (n .samples) 3) unsupported ∷
     must (eqb (n .compression) 34676) unsupported ∷
-    must (eqb (n .photometric) 32845) unsupported ∷ []
+    must (hasHead n) unsupported ∷ []
 
 -- Step 3 (rule 3.3): fill order, orientation, planar configuration and predictor are the usual ones, and there are no extra samples. Refused with 3.
 unfoldable pub step3 : Numbers → ℕ → List Check
@@ -85,8 +94,8 @@ step3 n extra =
     must (eqb (n .predictor) 1) unsupported ∷
     must (absent extra) unsupported ∷ []
 
--- Step 4 (rule 3.4): samples have 16 bits each, and then format 2 each. An array of another type or length is refused with 3; a value is looked for in
--- the file (1), among what came (8), and held to the number wanted (3), before the next.
+-- Step 4 (rule 3.4): the samples of a pixel have 16 bits each, and then format 2 each. Values of another type or number are refused with 3; a value is
+-- looked for in the file (1), among what came (8), and held to the number wanted (3), before the next.
 module _ (v : Seen) (big : Bool) where
   -- n values of an entry from value i on are there, and this number
   unfoldable pub eachIs : ℕ → ℕ → ℕ → ℕ → List Check
@@ -95,11 +104,11 @@ module _ (v : Seen) (big : Bool) where
       there v (placeOf v big e i) (sizeOf v big e) ++
       (must (eqb (valueAt v big e i) wanted) unsupported ∷ eachIs e wanted (suc i) n)
 
-  unfoldable pub threeChecks : ℕ → ℕ → List Check
-  threeChecks e wanted = must (carries v big e 3) unsupported ∷ eachIs e wanted 0 3
+  unfoldable pub sampleChecks : ℕ → ℕ → ℕ → List Check
+  sampleChecks samples e wanted = must (carries v big e samples) unsupported ∷ eachIs e wanted 0 samples
 
-  unfoldable pub step4 : List ℕ → List Check
-  step4 slots = threeChecks (entryIn slots bitsPerSample) 16 ++ threeChecks (entryIn slots sampleFormat) 2
+  unfoldable pub step4 : ℕ → List ℕ → List Check
+  step4 samples slots = sampleChecks samples (entryIn slots bitsPerSample) 16 ++ sampleChecks samples (entryIn slots sampleFormat) 2
 
 -- Step 5 (rule 3.5): where there are tile offsets a block has the tile's sides; else it is a strip, as wide as the picture and as high as the rows of a
 -- strip, or as the picture where that is less. Each side is above 0 and at most 16384. Refused with 3.
@@ -110,6 +119,7 @@ shapeOf n tiled = record {
   «block_width» = pick tiled (n .«tile_width») (n .width);
   «block_height» = pick tiled (n .«tile_height») (lesser (n .«strip_rows») (n .height));
   tiled = tiled;
+  mono = headIn n;
 }
 
 abbrev pub shapeIn : List ℕ → Numbers → Shape
@@ -133,7 +143,7 @@ step6 s slots = pick (s .tiled)
     must (absent (entryIn slots tileLength)) invalid ∷
     must (absent (entryIn slots tileByteCounts)) invalid ∷ [])
 
--- Step 7 (rule 3.7): so many blocks across and down are the segments, and six bytes a pixel are the output; max_segments and max_output allow them.
+-- Step 7 (rule 3.7): so many blocks across and down are the segments, and b bytes a pixel are the output; max_segments and max_output allow them.
 -- Refused with 4. The numbers are exact, so one above 2^64-1 is above every limit.
 abbrev pub acrossOf : Shape → ℕ
 acrossOf s = pieces (s .width) (s .«block_width»)
@@ -142,7 +152,7 @@ abbrev pub segmentsOf : Shape → ℕ
 segmentsOf s = acrossOf s * pieces (s .height) (s .«block_height»)
 
 abbrev pub outputOf : Shape → ℕ
-outputOf s = 6 * (s .width * s .height)
+outputOf s = bytesOf (s .mono) * (s .width * s .height)
 
 unfoldable pub step7 : Shape → ℕ → ℕ → List Check
 step7 s maxSegments maxOutput =
@@ -174,7 +184,7 @@ module _ (v : Seen) (big : Bool) (slots : List ℕ) where
       step1 v big slots ++
       (step2 numbers (l .«max_dimension») ++
       (step3 numbers (entryIn slots extraSamples) ++
-      (step4 v big slots ++
+      (step4 v big (channelsOf (headIn numbers)) slots ++
       (step5 shape ++
       (step6 shape slots ++
       (step7 shape (l .«max_segments») (l .«max_output») ++
@@ -195,6 +205,7 @@ formatWith big entries slots s = record {
   offsets = offsetsIn slots (s .tiled);
   counts = countsIn slots (s .tiled);
   entries = entries;
+  mono = s .mono;
 }
 
 abbrev pub formatOf : Seen → Bool → ℕ → List ℕ → Format

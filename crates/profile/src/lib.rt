@@ -17,13 +17,14 @@ pub struct Numbers {
     pub tile_height: usize,
 }
 
-// The picture's sides and those of a block.
+// The picture's sides and those of a block, and the head that made it.
 pub struct Shape {
     pub width: usize,
     pub height: usize,
     pub block_width: usize,
     pub block_height: usize,
     pub tiled: bool,
+    pub mono: bool,
 }
 
 pub enum Profile {

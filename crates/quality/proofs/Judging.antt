@@ -1,6 +1,6 @@
 -- The quality of a segment by the answers of its place and of its packets, and what it is charged.
 use Prim.Native.Nat.{ℕ, _<_}
-use mathlib.Core.Path.{_≡_, refl, sym, ap, _∙_}
+use mathlib.Core.Path.{_≡_, refl, sym, _∙_}
 use mathlib.Core.Bool.{Bool, true, false}
 use mathlib.Core.List.{List}
 use native.Mathlib.Omega.{arith}
@@ -64,7 +64,7 @@ module _ (v : Seen) (f : Format) (k : ℕ) where
 
     -- the fee, be the packets accepted or not
     pub whole-fee : (offset count : ℕ) → p ≡ place-is.Range offset count
-        → (area : ℕ) → area ≡ areaOf f k → {s : Size} → s ≡ within (fee count area) → s ≡ within (segmentCharge v f k)
+        → (area : ℕ) → area ≡ areaOf f k → {s : Size} → s ≡ within (fee (f .mono) count area) → s ≡ within (segmentCharge v f k)
     unfolding qualityIs
     whole-fee offset count q area ea {s} e =
         let here = located v f k ep offset count q in

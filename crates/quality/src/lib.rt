@@ -66,6 +66,9 @@ pub fn charge_of(file: &[u8], map: &[u8], format: Format, k: usize) -> Size
 {
     match plan::locate(file, map, format, k) {
         Place::Refused(_) => Size::Fits(1),
-        Place::Range(_, count) => geometry::fee_of(count, picture::area_of(format, k)),
+        Place::Range(_, count) => {
+            let mono = format.mono;
+            geometry::fee_of(mono, count, picture::area_of(format, k))
+        }
     }
 }

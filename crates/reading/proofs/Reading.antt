@@ -25,7 +25,7 @@ use Rattle.showing.specs.Shown.{planesIn, shownBy, shown}
 use Rattle.showing.specs.Inner.{SegmentShowable}
 use Rattle.showing.proofs.Showing.{planes-length, showable, stored-part, shown-part}
 use Rattle.quality.specs.Quality.{judged, codeIs, whereGood, qualityIs, codeOf, showsOf}
-use Rattle.reading.specs.Inner.{planesOf}
+use Rattle.reading.specs.Inner.{planesRead}
 use Rattle.quality.specs.declared.Quality.{Quality}
 use Rattle.quality.specs.declared.Quality.the-variants.{Good, Missing, Outside, Rejected}
 
@@ -84,7 +84,7 @@ module _ (v : Seen) (f : Format) (k : ℕ) {r : Quality} (er : r ≡ qualityIs v
     nothing : (bytes : List ℕ) → [] ≡ whereGood (qualityIs v f k) bytes
     nothing bytes = rw (← er, e) (gives-nothing q none bytes)
 
-    pub blank-planes : (old : List ℕ) → old ≡ overlay (planesOf v f k) old
+    pub blank-planes : (old : List ℕ) → old ≡ overlay (planesRead v f k) old
     blank-planes old = rw (← nothing (planesIn (stored v f k))) (nothing-over old)
 
     pub blank-picture : (old new : List ℕ) → new ≡ painted f k [] old → new ≡ painted f k (showsOf v f k) old
@@ -106,7 +106,7 @@ module _
   pub good-showable : Readable (seen file map) f → k < f .segments → SegmentShowable file f k offset count
   good-showable ok h = showable file map f k offset count here ok h (good-packets (seen file map) f k er offset count q)
 
-  pub good-planes : (old new : List ℕ) → new ≡ overlay (planesIn (part file offset count)) old → new ≡ overlay (planesOf (seen file map) f k) old
+  pub good-planes : (old new : List ℕ) → new ≡ overlay (planesIn (part file offset count)) old → new ≡ overlay (planesRead (seen file map) f k) old
   good-planes old new e = rw (← er, q) (stored-part file map f k offset count here old new e)
 
   pub good-picture : (old new : List ℕ) → new ≡ painted f k (shownBy f k (part file offset count)) old
@@ -116,7 +116,7 @@ module _
 pub ruleset good = (good-showable, code-is, good-planes, good-picture, needs)
 
 -- what is written into scratch is no more than the planes: nothing where the segment is not good
-pub planes-short : (v : Seen) (f : Format) (k : ℕ) → length (planesOf v f k) ≤ neededOf f k
+pub planes-short : (v : Seen) (f : Format) (k : ℕ) → length (planesRead v f k) ≤ neededOf f k
 planes-short v f k = by (qualityIs v f k) refl
   where
     by : (q : Quality) → q ≡ qualityIs v f k → length (whereGood q (planesIn (stored v f k))) ≤ neededOf f k

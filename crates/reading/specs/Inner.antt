@@ -17,5 +17,5 @@ pub record SegmentReadable (v : Seen) (f : Format) (k scratch output : ℕ) : Ty
   pub picture-in : f .output ≤ output
 
 -- the planes of a good segment; any other leaves scratch as it is
-abbrev pub planesOf : Seen → Format → ℕ → List ℕ
-planesOf v f k = whereGood (qualityIs v f k) (planesIn (stored v f k))
+abbrev pub planesRead : Seen → Format → ℕ → List ℕ
+planesRead v f k = whereGood (qualityIs v f k) (planesIn (stored v f k))

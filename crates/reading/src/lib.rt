@@ -8,7 +8,7 @@ ghost use Rattle.lists.specs.Lists.{overlay};
 ghost use Rattle.seen.specs.Seen.{seen};
 ghost use Rattle.picture.specs.Picture.{painted};
 ghost use Rattle.quality.specs.Quality.{codeOf, showsOf};
-ghost use Rattle.reading.specs.Inner.{planesOf, SegmentReadable};
+ghost use Rattle.reading.specs.Inner.{planesRead, SegmentReadable};
 
 // What stands in the quality buffer for a segment.
 pub const GOOD: u8 = 1;
@@ -30,7 +30,7 @@ pub fn read_segment(
 ) -> u8
     requires { ⌜ SegmentReadable (seen (now file) (now map)) format k (length (now scratch)) (length (now output)) ⌝ }
     ensures code { λ r. ⌜ r ≡ codeOf (seen (now (file .entry)) (now (map .entry))) format k ⌝ }
-    ensures planes { λ _. ⌜ now (scratch .exit) ≡ overlay (planesOf (seen (now (file .entry)) (now (map .entry))) format k) (now (scratch .entry)) ⌝ }
+    ensures planes { λ _. ⌜ now (scratch .exit) ≡ overlay (planesRead (seen (now (file .entry)) (now (map .entry))) format k) (now (scratch .entry)) ⌝ }
     ensures picture { λ _. ⌜ now (output .exit) ≡ painted format k (showsOf (seen (now (file .entry)) (now (map .entry))) format k) (now (output .entry)) ⌝ }
 {
     match quality::quality_of(file, map, format, k) {

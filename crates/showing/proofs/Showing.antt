@@ -1,6 +1,6 @@
 -- A segment that is shown: the part of scratch that its packets fill has its planes, whose pixels it paints.
 use Prim.Native.Nat.{ℕ, _+_, _-_, _*_, _/_, _%_, _<_, _≤_}
-use mathlib.Core.Path.{_≡_, sym, ap, _∙_}
+use mathlib.Core.Path.{_≡_, sym, _∙_}
 use mathlib.Core.List.{List}
 use native.Mathlib.Omega.{arith}
 use native.Mathlib.Nat.{add-sub-cancel-left, sub-zero, div-add-mod', mod-lt}
@@ -9,18 +9,18 @@ use lib.ListN.{length, take, drop, getD}
 use lib.Seq.{take-at, length-take-le}
 use borrow.Author.Needs.{needs}
 use Rattle.lists.specs.Lists.{overlay}
+use Rattle.head.specs.Heads.{planesOf, bytesOf}
 use Rattle.checks.specs.Checks.{Holds}
 use Rattle.seen.specs.Seen.{Seen, seen}
 use Rattle.packets.specs.Packets.{expand, part}
 use Rattle.packets.specs.Inner.{Accepted}
 use Rattle.packets.proofs.Expand.{expand-length}
-use Rattle.pixel.specs.Luv.{pixel}
+use Rattle.pixel.specs.Luv.{pixelOf}
 use Rattle.luv.proofs.Index.{pixel-byte}
 use Rattle.geometry.specs.Geometry.{segmentOf, localOf}
-use Rattle.geometry.specs.Costs.{neededFor}
 use Rattle.geometry.proofs.Cutting.{below-rows, piece-below}
 use Rattle.picture.specs.declared.Format.{Format}
-use Rattle.picture.specs.Picture.{rowsIn, areaOf, neededOf, pictureOf, painted}
+use Rattle.picture.specs.Picture.{rowsIn, neededOf, pictureOf, painted}
 use Rattle.picture.specs.Inner.{Valid, Readable}
 use Rattle.plan.proofs.Planning.{Located}
 use Rattle.paint.specs.Paint.{pixelsOf}
@@ -42,13 +42,9 @@ planes-length v f k h = fill-length f k (stored v f k) h
 module _
     (file : List ℕ)
     (f : Format)
-    (k offset count area needed : ℕ)
+    (k offset count needed : ℕ)
     (ok : SegmentShowable file f k offset count)
-    (ea : area ≡ areaOf f k)
-    (en : needed ≡ neededFor area) where
-  is-needed : needed ≡ neededOf f k
-  is-needed = en ∙ ap neededFor ea
-
+    (is-needed : needed ≡ neededOf f k) where
   pub part-accepted : Accepted (take (offset + count - offset) (drop offset file)) needed
   part-accepted = record { stride = f .«block_width»; holds = rw (add-sub-cancel-left, is-needed) (ok .packets) }
 
@@ -89,18 +85,15 @@ module _ (file map : List ℕ) (f : Format) (k offset count : ℕ) (here : Locat
     shown-part e = rw (stored-is file map f k offset count here) e
 
 -- what stands where in the picture of all segments: each pixel by the planes of its segment
-module _ (v : Seen) (f : Format) (valid : Valid f) (x y c : ℕ) (column : x < f .width) (row : y < f .height) (byte : c < 6) where
-  -- bytes 0 and 1 are the low and the high byte of L, the others uv of u and uv of v, low byte first
+module _ (v : Seen) (f : Format) (valid : Valid f) (x y c : ℕ) (column : x < f .width) (row : y < f .height) (byte : c < bytesOf (f .mono)) where
   pub pixel-shown :
       let bw = f .«block_width» in
       let s = segmentOf bw (f .«block_height») (f .across) x y in
       let planes = planesIn (stored v f s) in
-      let from = y % f .«block_height» * (4 * bw) in
-      let i = x % bw in
-      length planes ≡ 4 * areaOf f s
-      → getD (pictureOf f (shown v f)) ((y * f .width + x) * 6 + c) 0
-      ≡ getD (pixel (getD planes (from + i) 0) (getD planes (from + (bw + i)) 0) (getD planes (from + (2 * bw + i)) 0) (getD planes (from + (3 * bw + i)) 0))
-      c 0
+      let from = y % f .«block_height» * (planesOf (f .mono) * bw) in
+      length planes ≡ neededOf f s
+      → getD (pictureOf f (shown v f)) ((y * f .width + x) * bytesOf (f .mono) + c) 0
+      ≡ getD (pixelOf (f .mono) (λ plane. getD planes (from + (plane * bw + x % bw)) 0)) c 0
   unfolding shown
   pixel-shown whole =
       let bw = f .«block_width» in
@@ -110,7 +103,8 @@ module _ (v : Seen) (f : Format) (valid : Valid f) (x y c : ℕ) (column : x < f
       let b : x / bw < f .across = rw (valid .across-is) (piece-below (f .width) bw x (valid .some-block-width) column) in
       let t : s / f .across * bh + y % bh < f .height = rw (digits-div (y / bh) b) (omega (arith, div-add-mod' y bh)) in
       let r = below-rows (f .tiled) (f .height) bh (f .across) s (y % bh) (mod-lt y (valid .some-block-height)) t in
-      let l : localOf 6 bw bh x y c ≡ y % bh * (6 * bw) + (x % bw * 6 + c) = omega arith in
+      let size = bytesOf (f .mono) in
+      let l : localOf size bw bh x y c ≡ y % bh * (size * bw) + (x % bw * size + c) = omega arith in
       pixel-at f x y c column byte valid row (shown v f)
       ∙ rw l
-      (pixel-byte bw (rowsIn f s) planes (y % bh) (x % bw) c (omega arith) r (mod-lt x (valid .some-block-width)) byte)
+      (pixel-byte (f .mono) bw (rowsIn f s) planes (y % bh) (x % bw) c (omega arith) r (mod-lt x (valid .some-block-width)) byte)

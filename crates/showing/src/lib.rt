@@ -23,7 +23,7 @@ pub fn show_segment(
     ensures planes { λ _. ⌜ now (scratch .exit) ≡ overlay (planesIn (part (now (file .entry)) offset count)) (now (scratch .entry)) ⌝ }
     ensures picture { λ _. ⌜ now (output .exit) ≡ painted format k (shownBy format k (part (now (file .entry)) offset count)) (now (output .entry)) ⌝ }
 {
-    let needed = geometry::needed_for(picture::area_of(format, k));
+    let needed = picture::needed_of(format, k);
     let end = offset + count;
     logluv::expand_part(&file[offset..end], needed, scratch);
     paint::paint(&scratch[0..needed], format, k, output);

@@ -5,11 +5,11 @@ use Rattle.profile.specs.Profile.{step4}
 use Rattle.arrays.proofs.check_depths.Statement.{statement}
 use Rattle.arrays.proofs.check_depths.Tie as tie
 
-array-read-check-three : tie.Need-array-read-check-three
-array-read-check-three c = search (slot-is-there, verdict-calls)
+array-read-check-samples : tie.Need-array-read-check-samples
+array-read-check-samples c = search (slot-is-there, verdict-calls)
 
-check-three-requires : tie.Need-check-three-requires
-check-three-requires c κs = search (slot-is-there, verdict-calls)
+check-samples-requires : tie.Need-check-samples-requires
+check-samples-requires c κs = search (slot-is-there, verdict-calls)
 
 enum-known-e : tie.Need-enum-known-e
 enum-known-e c = search (slot-is-there, verdict-calls)
@@ -17,11 +17,11 @@ enum-known-e c = search (slot-is-there, verdict-calls)
 enum-told : tie.Need-enum-told
 enum-told c = search (slot-is-there, verdict-calls)
 
-array-read-check-three-2 : tie.Need-array-read-check-three-2
-array-read-check-three-2 c = search (slot-is-there, verdict-calls)
+array-read-check-samples-2 : tie.Need-array-read-check-samples-2
+array-read-check-samples-2 c = search (slot-is-there, verdict-calls)
 
-check-three-requires-2 : tie.Need-check-three-requires-2
-check-three-requires-2 c κs = search (slot-is-there, verdict-calls)
+check-samples-requires-2 : tie.Need-check-samples-requires-2
+check-samples-requires-2 c κs = search (slot-is-there, verdict-calls)
 
 returns : tie.Need-returns
 unfolding step4
@@ -35,11 +35,11 @@ pub check-depths-spec : {M : Type 1} → statement M
 check-depths-spec =
     tie.close
     (tie.spec
-    array-read-check-three
-    check-three-requires
+    array-read-check-samples
+    check-samples-requires
     enum-known-e
     enum-told
-    array-read-check-three-2
-    check-three-requires-2
+    array-read-check-samples-2
+    check-samples-requires-2
     returns
     returns-2)

@@ -6,10 +6,10 @@ use Rattle.arrays.proofs.check_each.Statement.{statement}
 use Rattle.arrays.proofs.check_each.Tie as tie
 
 abbrev Inv-loop : tie.InvT-loop
-Inv-loop file map big entry wanted i₀ i = Matching (seen file map) big entry wanted i
+Inv-loop file map big samples entry wanted i₀ i = Matching (seen file map) big samples entry wanted i
 
 abbrev μ-loop : tie.MeasureT-loop
-μ-loop file map big entry wanted i₀ i = 3 - i
+μ-loop file map big samples entry wanted i₀ i = samples - i
 
 loop-holds : tie.Need-loop-holds Inv-loop μ-loop
 loop-holds c = search values

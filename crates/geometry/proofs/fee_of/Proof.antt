@@ -3,6 +3,9 @@ use Rattle.geometry.proofs.Costing.{costs}
 use Rattle.geometry.proofs.fee_of.Statement.{statement}
 use Rattle.geometry.proofs.fee_of.Tie as tie
 
+scratch-for-requires : tie.Need-scratch-for-requires
+scratch-for-requires c κs = search costs
+
 mul-sum : tie.Need-mul-sum
 mul-sum c = search costs
 
@@ -16,4 +19,4 @@ returns : tie.Need-returns
 returns c = search costs
 
 pub fee-of-spec : {M : Type 1} → statement M
-fee-of-spec = tie.close (tie.spec mul-sum add-sum sum-requires returns)
+fee-of-spec = tie.close (tie.spec scratch-for-requires mul-sum add-sum sum-requires returns)

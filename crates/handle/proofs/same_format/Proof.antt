@@ -21,6 +21,12 @@ same-entries-requires c κs = search comparisons
 returns-3 : tie.Need-returns-3
 returns-3 c = search comparisons
 
+same-bool-requires : tie.Need-same-bool-requires
+same-bool-requires c κs = search comparisons
+
+returns-4 : tie.Need-returns-4
+returns-4 c = search comparisons
+
 pub same-format-spec : {M : Type 1} → statement M
 same-format-spec =
     tie.close
@@ -30,4 +36,6 @@ same-format-spec =
     same-cut-requires
     returns-2
     same-entries-requires
-    returns-3)
+    returns-3
+    same-bool-requires
+    returns-4)

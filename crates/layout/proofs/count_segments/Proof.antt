@@ -21,6 +21,9 @@ enum-known-segments c = search sizes
 returns : tie.Need-returns
 returns c = search sizes
 
+bytes-of-requires : tie.Need-bytes-of-requires
+bytes-of-requires c κs = search sizes
+
 product3-requires : tie.Need-product3-requires
 product3-requires c κs = search sizes
 
@@ -52,6 +55,7 @@ count-segments-spec =
     enum-told
     enum-known-segments
     returns
+    bytes-of-requires
     product3-requires
     enum-told-2
     enum-known-output

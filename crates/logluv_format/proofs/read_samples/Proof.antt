@@ -15,6 +15,12 @@ enum-known-e c = search formats
 enum-told : tie.Need-enum-told
 enum-told c = search formats
 
+is-mono-requires : tie.Need-is-mono-requires
+is-mono-requires c κs = search formats
+
+channels-of-requires : tie.Need-channels-of-requires
+channels-of-requires c κs = search formats
+
 check-depths-requires : tie.Need-check-depths-requires
 check-depths-requires c κs = search formats
 
@@ -44,6 +50,8 @@ read-samples-spec =
     check-numbers-requires
     enum-known-e
     enum-told
+    is-mono-requires
+    channels-of-requires
     check-depths-requires
     enum-known-e-2
     enum-told-2

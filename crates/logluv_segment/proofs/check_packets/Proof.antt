@@ -3,11 +3,8 @@ use Rattle.logluv_segment.proofs.Checking.{packets}
 use Rattle.logluv_segment.proofs.check_packets.Statement.{statement}
 use Rattle.logluv_segment.proofs.check_packets.Tie as tie
 
-area-of-requires : tie.Need-area-of-requires
-area-of-requires c κs = search packets
-
-needed-for-requires : tie.Need-needed-for-requires
-needed-for-requires c κs = search packets
+needed-of-requires : tie.Need-needed-of-requires
+needed-of-requires c κs = search packets
 
 add-end : tie.Need-add-end
 add-end c = search packets
@@ -31,8 +28,7 @@ pub check-packets-spec : {M : Type 1} → statement M
 check-packets-spec =
     tie.close
     (tie.spec
-    area-of-requires
-    needed-for-requires
+    needed-of-requires
     add-end
     sub-check-part
     part-check-part-start

@@ -1,68 +1,71 @@
 -- Each turn joins the pixels of one row to those so far.
-use Rattle.luv.proofs.Pixels.{rows-more, rows-all}
-use Rattle.pixel.specs.Luv.{rowPixels}
-use Rattle.lists.proofs.Rows.{Rowing, rows}
-use Prim.Native.Nat.{_-_, _*_}
-use borrow.Author.Needs.{needs}
+use Rattle.luv.proofs.Pixels.{Converting, converts}
+use Prim.Native.Nat.{_-_}
 use Rattle.luv.proofs.convert_rows.Statement.{statement}
 use Rattle.luv.proofs.convert_rows.Tie as tie
 
 abbrev Inv-loop : tie.InvT-loop
-Inv-loop planes w rows out₀ from-step to-step r₀ from₀ to₀ out r from to = Rowing (rowPixels w w) (4 * w) (6 * w) rows planes out₀ out r from to
+Inv-loop head planes w rows out₀ from-step to-step r₀ from₀ to₀ out r from to = Converting head from-step to-step w rows planes out₀ out r from to
 
 abbrev μ-loop : tie.MeasureT-loop
-μ-loop planes w rows out₀ from-step to-step r₀ from₀ to₀ out r from to = rows - r
+μ-loop head planes w rows out₀ from-step to-step r₀ from₀ to₀ out r from to = rows - r
+
+planes-of-requires : tie.Need-planes-of-requires Inv-loop μ-loop
+planes-of-requires c κs = search converts
 
 mul-from-step : tie.Need-mul-from-step Inv-loop μ-loop
-mul-from-step c = search needs
+mul-from-step c = search converts
+
+bytes-of-requires : tie.Need-bytes-of-requires Inv-loop μ-loop
+bytes-of-requires c κs = search converts
 
 mul-to-step : tie.Need-mul-to-step Inv-loop μ-loop
-mul-to-step c = search needs
+mul-to-step c = search converts
 
 loop-holds : tie.Need-loop-holds Inv-loop μ-loop
-loop-holds c = search rows
+loop-holds c = search converts
 
 add-from-end : tie.Need-add-from-end Inv-loop μ-loop
-add-from-end c = search rows
+add-from-end c = search converts
 
 add-to-end : tie.Need-add-to-end Inv-loop μ-loop
-add-to-end c = search rows
+add-to-end c = search (c .before .loop .inv, converts)
 
 sub-convert-row : tie.Need-sub-convert-row Inv-loop μ-loop
-sub-convert-row c = search needs
+sub-convert-row c = search converts
 
 part-convert-row-start : tie.Need-part-convert-row-start Inv-loop μ-loop
-part-convert-row-start c = search needs
+part-convert-row-start c = search converts
 
 part-convert-row-end : tie.Need-part-convert-row-end Inv-loop μ-loop
-part-convert-row-end c = search rows
+part-convert-row-end c = search converts
 
 sub-convert-row-2 : tie.Need-sub-convert-row-2 Inv-loop μ-loop
-sub-convert-row-2 c = search needs
+sub-convert-row-2 c = search converts
 
 part-convert-row-start-2 : tie.Need-part-convert-row-start-2 Inv-loop μ-loop
-part-convert-row-start-2 c = search needs
+part-convert-row-start-2 c = search converts
 
 part-convert-row-end-2 : tie.Need-part-convert-row-end-2 Inv-loop μ-loop
-part-convert-row-end-2 c = search rows
+part-convert-row-end-2 c = search converts
 
 convert-row-requires : tie.Need-convert-row-requires Inv-loop μ-loop
-convert-row-requires c κs = search needs
+convert-row-requires c κs = search converts
 
 add-r : tie.Need-add-r Inv-loop μ-loop
-add-r c = search needs
+add-r c = search converts
 
 loop-less : tie.Need-loop-less Inv-loop μ-loop
-loop-less c = search needs
+loop-less c = search converts
 
 loop-again : tie.Need-loop-again Inv-loop μ-loop
-loop-again c = search rows-more
+loop-again c = search converts
 
 same-length : tie.Need-same-length Inv-loop μ-loop
-same-length c = search needs
+same-length c = search converts
 
 returns : tie.Need-returns Inv-loop μ-loop
-returns c = search rows-all
+returns c = search converts
 
 pub convert-rows-spec : {M : Type 1} → statement M
 convert-rows-spec =
@@ -70,7 +73,9 @@ convert-rows-spec =
     (tie.spec
     Inv-loop
     μ-loop
+    planes-of-requires
     mul-from-step
+    bytes-of-requires
     mul-to-step
     loop-holds
     add-from-end

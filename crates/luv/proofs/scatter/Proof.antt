@@ -5,13 +5,20 @@ use Rattle.luv.proofs.scatter.Statement.{statement}
 use Rattle.luv.proofs.scatter.Tie as tie
 
 abbrev Inv-loop : tie.InvT-loop
-Inv-loop planes w n rows first pitch out₀ from-step size r₀ from₀ at₀ out r from at = Scattering w n rows first pitch planes out₀ out r from at
+Inv-loop head planes w n rows first pitch out₀ from-step size r₀ from₀ at₀ out r from at =
+    Scattering head from-step size w n rows first pitch planes out₀ out r from at
 
 abbrev μ-loop : tie.MeasureT-loop
-μ-loop planes w n rows first pitch out₀ from-step size r₀ from₀ at₀ out r from at = rows - r
+μ-loop head planes w n rows first pitch out₀ from-step size r₀ from₀ at₀ out r from at = rows - r
+
+planes-of-requires : tie.Need-planes-of-requires Inv-loop μ-loop
+planes-of-requires c κs = search scatters
 
 mul-from-step : tie.Need-mul-from-step Inv-loop μ-loop
 mul-from-step c = search scatters
+
+bytes-of-requires : tie.Need-bytes-of-requires Inv-loop μ-loop
+bytes-of-requires c κs = search scatters
 
 mul-size : tie.Need-mul-size Inv-loop μ-loop
 mul-size c = search scatters
@@ -23,7 +30,7 @@ add-from-end : tie.Need-add-from-end Inv-loop μ-loop
 add-from-end c = search scatters
 
 add-end : tie.Need-add-end Inv-loop μ-loop
-add-end c = search scatters
+add-end c = search (c .before .loop .inv, scatters)
 
 sub-convert-row : tie.Need-sub-convert-row Inv-loop μ-loop
 sub-convert-row c = search scatters
@@ -41,7 +48,7 @@ part-convert-row-start-2 : tie.Need-part-convert-row-start-2 Inv-loop μ-loop
 part-convert-row-start-2 c = search scatters
 
 part-convert-row-end-2 : tie.Need-part-convert-row-end-2 Inv-loop μ-loop
-part-convert-row-end-2 c = search scatters
+part-convert-row-end-2 c = search (c .before .before .loop .inv, scatters)
 
 convert-row-requires : tie.Need-convert-row-requires Inv-loop μ-loop
 convert-row-requires c κs = search scatters
@@ -50,7 +57,7 @@ add-from : tie.Need-add-from Inv-loop μ-loop
 add-from c = search scatters
 
 add-at : tie.Need-add-at Inv-loop μ-loop
-add-at c = search scatters
+add-at c = search (c .before .before .before .before .before .before .loop .inv, scatters)
 
 add-r : tie.Need-add-r Inv-loop μ-loop
 add-r c = search scatters
@@ -73,7 +80,9 @@ scatter-spec =
     (tie.spec
     Inv-loop
     μ-loop
+    planes-of-requires
     mul-from-step
+    bytes-of-requires
     mul-size
     loop-holds
     add-from-end

@@ -3,6 +3,9 @@ use Rattle.paint.proofs.Parts.{parts}
 use Rattle.paint.proofs.blank.Statement.{statement}
 use Rattle.paint.proofs.blank.Tie as tie
 
+bytes-of-requires : tie.Need-bytes-of-requires
+bytes-of-requires c κs = search parts
+
 visible-of-requires : tie.Need-visible-of-requires
 visible-of-requires c κs = search parts
 
@@ -25,6 +28,7 @@ pub blank-spec : {M : Type 1} → statement M
 blank-spec =
     tie.close
     (tie.spec
+    bytes-of-requires
     visible-of-requires
     mul-clear-rows
     mul-clear-rows-2

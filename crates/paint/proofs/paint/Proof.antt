@@ -6,6 +6,9 @@ use Rattle.paint.proofs.paint.Tie as tie
 visible-of-requires : tie.Need-visible-of-requires
 visible-of-requires c κs = search parts
 
+bytes-of-requires : tie.Need-bytes-of-requires
+bytes-of-requires c κs = search parts
+
 mul-scatter : tie.Need-mul-scatter
 mul-scatter c = search parts
 
@@ -20,4 +23,11 @@ returns c = search parts
 
 pub paint-spec : {M : Type 1} → statement M
 paint-spec =
-    tie.close (tie.spec visible-of-requires mul-scatter scatter-requires same-length returns)
+    tie.close
+    (tie.spec
+    visible-of-requires
+    bytes-of-requires
+    mul-scatter
+    scatter-requires
+    same-length
+    returns)

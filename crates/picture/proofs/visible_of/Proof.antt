@@ -28,6 +28,9 @@ sub-lesser-of-2 c = search (le-of-lt, places)
 lesser-of-requires-2 : tie.Need-lesser-of-requires-2
 lesser-of-requires-2 c κs = search places
 
+bytes-of-requires : tie.Need-bytes-of-requires
+bytes-of-requires c κs = search places
+
 mul-first : tie.Need-mul-first
 mul-first c = search places
 
@@ -52,6 +55,7 @@ visible-of-spec =
     lesser-of-requires
     sub-lesser-of-2
     lesser-of-requires-2
+    bytes-of-requires
     mul-first
     add-first
     mul-first-2

@@ -4,11 +4,8 @@ use borrow.Author.Needs.{needs}
 use Rattle.showing.proofs.show_segment.Statement.{statement}
 use Rattle.showing.proofs.show_segment.Tie as tie
 
-area-of-requires : tie.Need-area-of-requires
-area-of-requires c κs = search showing
-
-needed-for-requires : tie.Need-needed-for-requires
-needed-for-requires c κs = search showing
+needed-of-requires : tie.Need-needed-of-requires
+needed-of-requires c κs = search showing
 
 add-end : tie.Need-add-end
 add-end c = search showing
@@ -50,8 +47,7 @@ pub show-segment-spec : {M : Type 1} → statement M
 show-segment-spec =
     tie.close
     (tie.spec
-    area-of-requires
-    needed-for-requires
+    needed-of-requires
     add-end
     sub-expand-part
     part-expand-part-start
