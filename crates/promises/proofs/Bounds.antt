@@ -6,6 +6,7 @@ use mathlib.Core.Bool.{Bool, true, false, not}
 use native.Mathlib.Omega.{arith}
 use native.Mathlib.Nat.{mul-le-mul-left, mul-le-mul-right, zero-div}
 use borrow.Author.Tests.{eqb-true, eqb-false}
+use Rattle.head.specs.Heads.{planesOf, bytesOf}
 use Rattle.checks.specs.Sizes.{within}
 use Rattle.checks.specs.declared.Size.the-variants.{Fits}
 use Rattle.checks.proofs.Sizes.{fits-is}
@@ -89,7 +90,9 @@ first-rows f ok = by (f .tiled) refl
 
 pub scratch-largest : (f : Format) → Valid f → Largest f (scratchOf f)
 scratch-largest f ok = record {
-  none-more = λ k l. omega (arith, mul-le-mul-left (f .«block_width») (rows-le (f .tiled) (f .height) (f .«block_height») (f .across) k));
+  none-more = λ k l.
+      mul-le-mul-left (planesOf (f .mono) + bytesOf (f .mono))
+      (mul-le-mul-left (f .«block_width») (rows-le (f .tiled) (f .height) (f .«block_height») (f .across) k));
   some-segment = omega (arith, ok .segments-are, ok .across-is);
   first-all = rw (first-rows f ok);
 }

@@ -1,11 +1,12 @@
 -- What strict reading leaves in the lent buffers: the definition's picture, pixel by pixel, what came after it as it was, and scratch zeroed.
-use Prim.Native.Nat.{ℕ, _+_, _*_, _/_, _%_, _<_, _≤_}
-use mathlib.Core.Path.{_≡_, refl, _∙_}
+use Prim.Native.Nat.{ℕ, _+_, _*_, _/_, _<_, _≤_}
+use mathlib.Core.Path.{_≡_, _∙_}
 use mathlib.Core.List.{List}
 use native.Mathlib.Omega.{arith}
 use lib.ListN.{length, getD, length-replicate}
 use Rattle.lists.proofs.Overlay.{only-zeros, overlay-new, overlay-old, overlay-length}
 use Rattle.lists.proofs.Counters.{grouped-in}
+use Rattle.head.specs.Heads.{bytesOf}
 use Rattle.checks.specs.declared.Told.the-variants as told-is
 use Rattle.seen.specs.Seen.{Seen}
 use Rattle.geometry.specs.Geometry.{pieces, segmentOf}
@@ -44,15 +45,12 @@ segment-below f ok x y column row =
     )
 
 -- a pixel of a good segment, whatever the others are
-pub pixel-of-good : (v : Seen) (f : Format) → Valid f → (x y c : ℕ) → x < f .width → y < f .height → c < 6
+pub pixel-of-good : (v : Seen) (f : Format) → Valid f → (x y c : ℕ) → x < f .width → y < f .height → c < bytesOf (f .mono)
     → Good v f (segmentOf (f .«block_width») (f .«block_height») (f .across) x y)
-    → getD (pictureOf f (shown v f)) ((y * f .width + x) * 6 + c) 0 ≡ getD (pixelSeen v f x y) c 0
+    → getD (pictureOf f (shown v f)) ((y * f .width + x) * bytesOf (f .mono) + c) 0 ≡ getD (pixelSeen v f x y) c 0
 pixel-of-good v f ok x y c column row byte good =
-    let bw = f .«block_width» in
-    let k = segmentOf bw (f .«block_height») (f .across) x y in
-    let zero-th : 0 * bw + x % bw ≡ x % bw = omega arith in
-    let first : 1 * bw + x % bw ≡ bw + x % bw = omega arith in
-    rw (zero-th, first) (pixel-shown v f ok x y c column row byte (planes-length v f k (packets-fill v f k .1 (good .packets))))
+    let k = segmentOf (f .«block_width») (f .«block_height») (f .across) x y in
+    pixel-shown v f ok x y c column row byte (planes-length v f k (packets-fill v f k .1 (good .packets)))
 
 -- the picture of a page that is fine, over the output, and the part of scratch that is asked for cleared
 module _ (v : Seen) (page : ℕ) (l : Limits) (fine : PictureFine v page l) (output scratch : List ℕ) where

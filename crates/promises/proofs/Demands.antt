@@ -99,7 +99,7 @@ demand-3 = record {
   good-exactly = quality-good;
   good-shows = good-shows;
   others-blank = others-blank;
-  good-never-blank = good-never-blank;
+  good-never-blank = λ c s w answered colour x y pixel. good-never-blank c s w answered x y pixel colour;
 }
 
 -- the number of an image's answer is that of the reading
@@ -135,5 +135,5 @@ demand-3-at-faces = record {
   good-exactly = λ c o l s w answered. rw (l .quality-is) (quality-good c s w answered);
   good-shows = λ c o l s w answered x y b pixel byte. rw (l .quality-is, l .output-is) (λ marked. good-shows c s w answered x y pixel marked b byte);
   others-blank = λ c o l s w answered x y b pixel byte. rw (l .quality-is, l .output-is) (λ unmarked. others-blank c s w answered x y pixel unmarked b byte);
-  good-never-blank = λ c o l s w answered x y pixel. rw (l .quality-is, l .output-is) (good-never-blank c s w answered x y pixel);
+  good-never-blank = λ c o l s w answered colour x y pixel. rw (l .quality-is, l .output-is) (good-never-blank c s w answered x y pixel colour);
 }

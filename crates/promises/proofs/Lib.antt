@@ -1,4 +1,5 @@
 pub mod Marked
+pub mod Heads
 pub mod Segments
 pub mod Strict
 pub mod Bounds

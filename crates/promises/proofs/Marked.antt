@@ -7,7 +7,7 @@ use Rattle.checks.specs.Checks.{verdict}
 use Rattle.seen.specs.Seen.{arrived, cameIn, four, inside, two, whole}
 use Rattle.geometry.specs.Geometry.{rowsOf, byteSegment, byteLocal}
 use Rattle.tags.specs.Slots.{defaults}
-use Rattle.profile.specs.Profile.{formatWith, slotNumber, shapeOf}
+use Rattle.profile.specs.Profile.{formatWith, slotNumber, headIn, shapeOf}
 use Rattle.entries.specs.Values.{inField, placeOf, sizeOf, wordAt}
 use Rattle.picture.specs.Picture.{pictureOf}
 use Rattle.plan.specs.Plan.{placeChecks}
@@ -25,6 +25,6 @@ use Rattle.promises.specs.Marked.{Case, cases}
 
 pub marked : map (λ (c : Case). c .gives) cases ≡ map (λ (c : Case). c .says) cases
 unfolding cases arrived cameIn four inside two whole formatWith inField placeOf sizeOf wordAt pictureOf placeChecks stored storedChecks shown qualityIs
-    rowsOf byteSegment byteLocal defaults slotNumber shapeOf span joined perRow back verdict lenOf payloadOf roomOf packetChecks piece
+    rowsOf byteSegment byteLocal defaults slotNumber headIn shapeOf span joined perRow back verdict lenOf payloadOf roomOf packetChecks piece
     expand rangeChecks uv pixel pixelAt rowPixels pixels numberFrom digits word value sample row64 samples summedRow gatheredRow summed gathered
 marked = refl

@@ -7,12 +7,14 @@ use native.Mathlib.Omega.{arith}
 use lib.ListN.{length, getD, replicate, length-replicate}
 use Rattle.lists.specs.Lists.{tabulate, overlay}
 use Rattle.lists.proofs.Overlay.{only-zeros, length-span, getD-tabulate, overlay-new, overlay-old}
+use Rattle.head.specs.Heads.{Head, colourHead, bytesOf, channelsOf}
+use Rattle.head.proofs.Heads.{bytes-are, same-channels}
 use Rattle.seen.specs.Seen.{Seen, seen}
 use Rattle.geometry.specs.Geometry.{segmentOf, localOf}
 use Rattle.front.specs.Front.{formatSeen}
 use Rattle.picture.specs.Inner.{Valid}
 use Rattle.picture.specs.declared.Format.{Format}
-use Rattle.pixel.specs.Luv.{pixel}
+use Rattle.pixel.specs.Luv.{pixel, pixelOf}
 use Rattle.pixel.proofs.Uv.{uv-least}
 use Rattle.picture.specs.Picture.{scratchOf, pictureOf}
 use Rattle.showing.specs.Shown.{shown}
@@ -20,7 +22,7 @@ use Rattle.picture.proofs.Pictures.{picture-length, pixel-in, pixel-at}
 use Rattle.quality.specs.Quality.{codeOf, showsOf}
 use Rattle.patchy.specs.declared.Sizes.{Sizes}
 use Rattle.promises.specs.Strict.{Good, pixelSeen}
-use Rattle.promises.specs.Patchy.{Call, view, pageFormat, outputThen, scratchThen, qualityThen, Answered, Reads, MarkedGood, definedPixel, PixelOf, segmentHere, placeHere, ShowsPixel, Blank}
+use Rattle.promises.specs.Patchy.{Call, view, pageFormat, outputThen, scratchThen, qualityThen, Answered, Reads, MarkedGood, definedPixel, PixelOf, pixelBytes, segmentHere, placeHere, ShowsPixel, Blank}
 use Rattle.promises.proofs.Strict.{page-valid, page-readable}
 use Rattle.promises.proofs.Patchy.{reading-exact}
 use Rattle.promises.proofs.Decoded.{segment-below, pixel-of-good}
@@ -28,14 +30,16 @@ use Rattle.promises.proofs.Own.{format-own, pixel-own}
 use Rattle.promises.proofs.Codes.{code-good, good-shown, other-blank}
 
 -- byte b of pixel (x, y), where a picture that shows the good segments lies over an old buffer
-module _ (v : Seen) (f : Format) (ok : Valid f) (old : List ℕ) (x y b : ℕ) (column : x < f .width) (row : y < f .height) (byte : b < 6) where
+module _ (v : Seen) (f : Format) (ok : Valid f) (old : List ℕ) (x y b : ℕ) (column : x < f .width) (row : y < f .height)
+    (byte : b < bytesOf (f .mono)) where
   abbrev segment : ℕ
   segment = segmentOf (f .«block_width») (f .«block_height») (f .across) x y
 
   abbrev place : ℕ
-  place = (y * f .width + x) * 6 + b
+  place = (y * f .width + x) * bytesOf (f .mono) + b
 
-  pixel-over : getD (overlay (pictureOf f (showsOf v f)) old) place 0 ≡ getD (showsOf v f segment) (localOf 6 (f .«block_width») (f .«block_height») x y b) 0
+  pixel-over : getD (overlay (pictureOf f (showsOf v f)) old) place 0
+      ≡ getD (showsOf v f segment) (localOf (bytesOf (f .mono)) (f .«block_width») (f .«block_height») x y b) 0
   pixel-over =
       overlay-new _ _ place (rw (picture-length f (showsOf v f)) (pixel-in f x y b column byte ok row)) ∙ pixel-at f x y b column byte ok row (showsOf v f)
 
@@ -47,9 +51,12 @@ module _ (v : Seen) (f : Format) (ok : Valid f) (old : List ℕ) (x y b : ℕ) (
   blank-over bad = pixel-over ∙ rw (other-blank v f segment bad)
 
 -- uv is never 0, so one of its two bytes is not
-pixel-some : (high low u v : ℕ) → getD (pixel high low u v) 2 0 ≡ 0 → getD (pixel high low u v) 3 0 ≡ 0 → ⊥
+colour-some : (plane : ℕ → ℕ) → getD (pixelOf colourHead plane) 2 0 ≡ 0 → getD (pixelOf colourHead plane) 3 0 ≡ 0 → ⊥
 unfolding pixel
-pixel-some high low u v a b = omega (arith, uv-least u)
+colour-some plane a b = omega (arith, uv-least (plane 2))
+
+pixel-some : (head : Head) → head ≡ colourHead → (plane : ℕ → ℕ) → getD (pixelOf head plane) 2 0 ≡ 0 → getD (pixelOf head plane) 3 0 ≡ 0 → ⊥
+pixel-some head e plane a b = colour-some plane (rw e at a) (rw e at b)
 
 module _ (c : Call) (s : Sizes) (w : ℕ) (answered : Answered c s w) where
   reads : Reads c s w
@@ -95,14 +102,14 @@ module _ (c : Call) (s : Sizes) (w : ℕ) (answered : Answered c s w) where
   scratch-after q h = rw scratch-left (overlay-old _ _ q (rw (length-replicate {A = ℕ} (scratchOf (pageFormat c)) 0) h))
 
   -- a pixel of a good segment has the bytes that its planes give
-  pixel-good : (x y b : ℕ) → x < s .width → y < s .height → b < 6 → Good (view c) (pageFormat c) (segmentHere c s x y)
+  pixel-good : (x y b : ℕ) → x < s .width → y < s .height → b < pixelBytes c s → Good (view c) (pageFormat c) (segmentHere c s x y)
       → getD (outputThen c) (placeHere c s x y b) 0 ≡ getD (pixelSeen (view c) (pageFormat c) x y) b 0
-  pixel-good = rw (picture-left, reads .sizes-are) (good-over (view c) (pageFormat c) valid-format (c .output))
+  pixel-good = rw (picture-left, reads .sizes-are, ← bytes-are (pageFormat c .mono)) (good-over (view c) (pageFormat c) valid-format (c .output))
 
-  -- a pixel of any other is six zeros
-  pixel-blank : (x y b : ℕ) → x < s .width → y < s .height → b < 6 → (Good (view c) (pageFormat c) (segmentHere c s x y) → ⊥)
+  -- a pixel of any other is zeros alone
+  pixel-blank : (x y b : ℕ) → x < s .width → y < s .height → b < pixelBytes c s → (Good (view c) (pageFormat c) (segmentHere c s x y) → ⊥)
       → getD (outputThen c) (placeHere c s x y b) 0 ≡ 0
-  pixel-blank = rw (picture-left, reads .sizes-are) (blank-over (view c) (pageFormat c) valid-format (c .output))
+  pixel-blank = rw (picture-left, reads .sizes-are, ← bytes-are (pageFormat c .mono)) (blank-over (view c) (pageFormat c) valid-format (c .output))
 
   -- the format is the file's own, and so are the pixels of a good segment
   pub own-format : pageFormat c ≡ formatSeen (seen (c .file) []) (c .page)
@@ -113,6 +120,12 @@ module _ (c : Call) (s : Sizes) (w : ℕ) (answered : Answered c s w) where
       let readable = page-readable (view c) (c .page) (c .limits) (reads .fine .page-fine) in
       pixel-own (c .file) (c .map) (pageFormat c) readable x y (rw (reads .sizes-are) at good)
       ∙ ap (λ (f : Format). pixelSeen (seen (c .file) []) f x y) own-format
+
+  -- three channels are those of the colour head
+  defined-colour : s .channels ≡ 3 → formatSeen (seen (c .file) []) (c .page) .mono ≡ colourHead
+  defined-colour e =
+      let told : s .channels ≡ channelsOf (pageFormat c .mono) = ap (λ (z : Sizes). z .channels) (reads .sizes-are) in
+      same-channels _ colourHead (ap (λ (f : Format). channelsOf (f .mono)) (sym own-format) ∙ sym told ∙ e)
 
   -- the segment of a pixel is one of the picture
   segment-in : (x y : ℕ) → x < s .width → y < s .height → segmentHere c s x y < s .segments
@@ -128,15 +141,17 @@ module _ (c : Call) (s : Sizes) (w : ℕ) (answered : Answered c s w) where
         let good = is-good .0 marked in
         pixel-good x y b (pixel-of .0) (pixel-of .1) byte good ∙ ap (λ (l : List ℕ). getD l b 0) (own-pixel x y good)
 
-    -- one of any other shows six zeros
+    -- one of any other shows zeros alone
     pub others-blank : (MarkedGood c (segmentHere c s x y) → ⊥) → Blank c s x y
     others-blank unmarked b byte = pixel-blank x y b (pixel-of .0) (pixel-of .1) byte (λ good. unmarked (is-good .1 good))
 
-    -- which none that is marked good shows
-    pub good-never-blank : MarkedGood c (segmentHere c s x y) → Blank c s x y → ⊥
-    good-never-blank marked blank =
-        pixel-some _ _ _ _ (sym (good-shows marked 2 (omega arith)) ∙ blank 2 (omega arith)) (sym (good-shows marked 3 (omega arith)) ∙ blank 3 (omega arith))
+    -- which none of the colour head that is marked good shows
+    module _ (colour : s .channels ≡ 3) where
+      pub good-never-blank : MarkedGood c (segmentHere c s x y) → Blank c s x y → ⊥
+      good-never-blank marked blank =
+          pixel-some _ (defined-colour colour) _ (sym (good-shows marked 2 (omega arith)) ∙ blank 2 (omega arith))
+          (sym (good-shows marked 3 (omega arith)) ∙ blank 3 (omega arith))
 
-    -- old data looks old: a pixel is six zeros exactly if its segment is not marked good
-    pub blank-exactly : Blank c s x y ↔ (MarkedGood c (segmentHere c s x y) → ⊥)
-    blank-exactly = (λ blank marked. good-never-blank marked blank, others-blank)
+      -- old data looks old: a pixel is six zeros exactly if its segment is not marked good
+      pub blank-exactly : Blank c s x y ↔ (MarkedGood c (segmentHere c s x y) → ⊥)
+      blank-exactly = (λ blank marked. good-never-blank marked blank, others-blank)

@@ -1,7 +1,7 @@
 -- What is read of a file under a map is the file's own: the format of a page whose front part is fine, and the pixels of a good segment, are those of
 -- the file seen whole, though other blocks are missing.
 use Prim.Native.Nat.{ℕ, zero, suc, _+_, _*_, _<_, _≤_}
-use mathlib.Core.Path.{_≡_, refl, sym, ap, _∙_, fun-ext}
+use mathlib.Core.Path.{_≡_, refl, ap, _∙_, fun-ext}
 use mathlib.Core.List.{List, [], map}
 use mathlib.Core.Bool.{Bool, true, false}
 use native.Mathlib.Omega.{arith}
@@ -30,7 +30,9 @@ use Rattle.picture.specs.declared.Format.{Format}
 use Rattle.plan.specs.Plan.{offsetOf, countOf}
 use Rattle.logluv_segment.specs.Segment.{stored}
 use Rattle.geometry.specs.Geometry.{segmentOf}
-use Rattle.promises.specs.Strict.{Good, pixelSeen}
+use Rattle.packets.specs.Packets.{expand}
+use Rattle.pixel.specs.Luv.{pixelOf}
+use Rattle.promises.specs.Strict.{Good, placeIn, pixelSeen}
 
 -- the file under a map, and the file whole
 module _ (file came : List ℕ) where
@@ -188,4 +190,6 @@ module _ (file came : List ℕ) where
 
   pub pixel-own : (f : Format) → Readable v f → (x y : ℕ) → Good v f (segmentOf (f .«block_width») (f .«block_height») (f .across) x y)
       → pixelSeen v f x y ≡ pixelSeen o f x y
-  pixel-own f readable x y good = rw (stored-own f readable (segmentOf (f .«block_width») (f .«block_height») (f .across) x y) good)
+  pixel-own f readable x y good =
+      ap (λ (bytes : List ℕ). pixelOf (f .mono) (λ plane. getD (expand bytes 0) (placeIn f x y plane) 0))
+      (stored-own f readable (segmentOf (f .«block_width») (f .«block_height») (f .across) x y) good)

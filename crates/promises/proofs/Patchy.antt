@@ -1,14 +1,15 @@
 -- Patchy reading is exact: it answers exactly if each of its tests holds and the units cover its charge, and each refusal is that of the
 -- first check that fails. A refusal leaves nothing in the buffers but zero quality bytes.
 use Prim.Native.Nat.{ℕ, _-_, _<_, _≤_}
-use mathlib.Core.Path.{_≡_, refl, ap, _∙_}
+use mathlib.Core.Path.{_≡_, refl, _∙_}
 use mathlib.Core.Logic.{_↔_, Iff·trans}
 use mathlib.Core.Bool.{Bool, true}
-use mathlib.Core.List.{List, [], _∷_, _++_}
+use mathlib.Core.List.{[], _∷_, _++_}
 use native.Mathlib.Omega.{arith}
 use lib.ListN.{length, replicate, length-replicate}
 use Rattle.lists.proofs.Overlay.{length-span, overlay-length}
 use borrow.Author.Tests.{leb-true, le-leb}
+use Rattle.head.specs.Heads.{channelsOf}
 use Rattle.checks.specs.Numbers.{limit, outputTooSmall}
 use Rattle.checks.specs.Checks.{run, Holds, cost, Never}
 use Rattle.checks.specs.declared.Told.the-variants as told-is
@@ -170,11 +171,12 @@ module _ (c : Call) where
       by (Picture s w) e z = (s, w, e)
       by (Refused n w) e z = let p = reading-numbered n w e in absurd (omega (arith, p .0))
 
-  -- an answer has the number 0, the five sizes of the page's format as its values, and the units less the charge
+  -- an answer has the number 0, five sizes of the page's format and the channels of its head as its values, and the units less the charge
   pub reading-values : (s : Sizes) (w : ℕ) → Answered c s w
       → (readingNumber (answer c) ≡ 0)
       × ((readingValues (answer c)
-      ≡ pageFormat c .width ∷ pageFormat c .height ∷ pageFormat c .«block_width» ∷ pageFormat c .«block_height» ∷ pageFormat c .segments ∷ [])
+      ≡ pageFormat c .width ∷ pageFormat c .height ∷ pageFormat c .«block_width» ∷ pageFormat c .«block_height» ∷ pageFormat c .segments ∷
+      channelsOf (pageFormat c .mono) ∷ [])
       × (readingLeft (answer c) ≡ c .units - readingCharge c))
   reading-values s w e =
       let r = reading-exact s w .0 e in

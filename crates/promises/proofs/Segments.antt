@@ -1,6 +1,6 @@
 -- The segments of a picture: their checks hold exactly if each of them is fine, and give no numbers but 1 to 7 and, for bytes that did
 -- not come, 8.
-use Prim.Native.Nat.{ℕ, zero, suc, _+_, _-_, _*_, _<_, _≤_}
+use Prim.Native.Nat.{ℕ, zero, suc, _+_, _-_, _<_, _≤_}
 use mathlib.Core.Path.{_≡_}
 use mathlib.Core.Logic.{_↔_, ⊎-elim, Iff·trans}
 use mathlib.Core.List.{List, [], _∷_, _++_}
@@ -19,7 +19,8 @@ use Rattle.picture.specs.declared.Format.{Format}
 use Rattle.front.proofs.Arrival.{Unusual, not-given, never-there}
 use Rattle.packets.specs.Packets.{lenOf, payloadOf, packetChecks, Fills}
 use Rattle.packets.proofs.Filling.{filling}
-use Rattle.picture.specs.Picture.{areaOf}
+use Rattle.geometry.specs.Costs.{scratchFor}
+use Rattle.picture.specs.Picture.{areaOf, neededOf}
 use Rattle.plan.specs.Plan.{offsetOf, countOf, placeChecks, feeOf, areaChecks, planChecks}
 use Rattle.logluv_segment.specs.Segment.{stored, storedChecks, segmentChecks, eachSegment}
 use Rattle.promises.specs.Strict.{Good, SegmentFine}
@@ -51,9 +52,9 @@ module _ (v : Seen) (f : Format) where
       (there-fine v (offsetOf v f k) (countOf v f k)))
 
   -- its packets pass their checks exactly if they fill its planes
-  pub packets-fill : (k : ℕ) → Holds (storedChecks v f k) ↔ Fills (f .«block_width») (stored v f k) (4 * areaOf f k)
+  pub packets-fill : (k : ℕ) → Holds (storedChecks v f k) ↔ Fills (f .«block_width») (stored v f k) (neededOf f k)
   unfolding storedChecks
-  packets-fill k = filling (f .«block_width») (stored v f k) (4 * areaOf f k)
+  packets-fill k = filling (f .«block_width») (stored v f k) (neededOf f k)
 
   -- a segment is good exactly if the checks of its place and of its packets hold
   pub good-fine : (k : ℕ) → (Holds (placeChecks v f k) × Holds (storedChecks v f k)) ↔ Good v f k
@@ -64,11 +65,11 @@ module _ (v : Seen) (f : Format) where
 
 module _ (v : Seen) (f : Format) (maxOutput : ℕ) where
   module _ (k : ℕ) where
-    room-fine : Holds (areaChecks v f maxOutput k) ↔ ((10 * areaOf f k ≤ maxOutput) × (feeOf v f k ≤ most64))
+    room-fine : Holds (areaChecks v f maxOutput k) ↔ ((scratchFor (f .mono) (areaOf f k) ≤ maxOutput) × (feeOf v f k ≤ most64))
     unfolding Holds areaChecks
     room-fine = (
-      λ h. (leb-true (10 * areaOf f k) maxOutput (h .0), leb-true (feeOf v f k) most64 (h .1 .0)),
-      λ p. (le-leb (10 * areaOf f k) maxOutput (p .0), (le-leb (feeOf v f k) most64 (p .1), tt)),
+      λ h. (leb-true (scratchFor (f .mono) (areaOf f k)) maxOutput (h .0), leb-true (feeOf v f k) most64 (h .1 .0)),
+      λ p. (le-leb (scratchFor (f .mono) (areaOf f k)) maxOutput (p .0), (le-leb (feeOf v f k) most64 (p .1), tt)),
     )
 
     pub segment-fine : Holds (segmentChecks v f maxOutput k) ↔ SegmentFine v f maxOutput k
@@ -123,7 +124,7 @@ module _ (number : ℕ) (unusual : Unusual number) where
 
     never-stored : (k : ℕ) → Never number (storedChecks v f k)
     unfolding storedChecks
-    never-stored k = never-packets (f .«block_width») (stored v f k) 0 (4 * areaOf f k)
+    never-stored k = never-packets (f .«block_width») (stored v f k) 0 (neededOf f k)
 
     module _ (maxOutput : ℕ) where
       never-segment : (k : ℕ) → Never number (segmentChecks v f maxOutput k)

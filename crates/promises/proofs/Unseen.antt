@@ -5,6 +5,8 @@ use mathlib.Core.List.{List}
 use lib.ListN.{length, take}
 use lib.Seq.{take-at}
 use Rattle.lists.specs.Lists.{overlay}
+use Rattle.head.specs.Heads.{bytesOf}
+use Rattle.head.proofs.Heads.{bytes-are}
 use Rattle.seen.specs.Seen.{Seen}
 use Rattle.seen.proofs.Alike.{alike}
 use Rattle.front.specs.Front.{formatSeen}
@@ -26,13 +28,14 @@ abbrev pictureSeen : Seen → ℕ → List ℕ
 pictureSeen v page = pictureOf (formatSeen v page) (showsOf v (formatSeen v page))
 
 -- where there is a picture it is the front of the output
-picture-front : (c : Call) (s : Sizes) (w : ℕ) → answer c ≡ Picture s w → take (6 * (s .width * s .height)) (outputThen c) ≡ pictureSeen (view c) (c .page)
+picture-front : (c : Call) (s : Sizes) (w : ℕ) → answer c ≡ Picture s w
+    → take (2 * s .channels * (s .width * s .height)) (outputThen c) ≡ pictureSeen (view c) (c .page)
 unfolding overlay
 picture-front c s w e =
     let r = reading-exact c s w .0 e in
     let f = pageFormat c in
     let long = picture-length f (showsOf (view c) f) ∙ page-valid (view c) (c .page) (c .limits) (r .fine .page-fine) .output-is in
-    rw (e, r .sizes-are) (take-at (pictureSeen (view c) (c .page)) _ (6 * (f .width * f .height)) long)
+    rw (e, r .sizes-are, ← bytes-are (f .mono)) (take-at (pictureSeen (view c) (c .page)) _ (bytesOf (f .mono) * (f .width * f .height)) long)
 
 -- the answer and the quality bytes are made of what is seen, what is asked for and the lengths of the buffers
 module _ (v w : Seen) (p q : ℕ) (same-view : v ≡ w) (same-page : p ≡ q) where

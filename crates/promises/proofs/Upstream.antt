@@ -1,5 +1,5 @@
 -- Upstream's clauses on segments and inspection that follow from what is promised here by a short argument.
-use Prim.Native.Nat.{ℕ, zero, suc, _+_, _-_, _*_, _/_, _<_, _≤_}
+use Prim.Native.Nat.{ℕ, zero, suc, _+_, _-_, _*_, _/_, _≤_}
 use mathlib.Core.Path.{_≡_, refl, sym, ap, _∙_}
 use mathlib.Core.List.{List, _∷_}
 use mathlib.Core.Bool.{Bool, true, false}
@@ -21,6 +21,7 @@ use Rattle.header.specs.Header.{bigEndian}
 use Rattle.front.specs.Front.{formatSeen}
 use Rattle.tags.specs.Slots.{tileOffsets, entryIn, present}
 use Rattle.profile.specs.Profile.{numbersOf, shapeOf, formatWith, formatOf}
+use Rattle.geometry.specs.Costs.{scratchFor}
 use Rattle.picture.specs.Inner.{Valid}
 use Rattle.picture.specs.declared.Format.{Format}
 use Rattle.profile.specs.Accepted.{ProfileFine}
@@ -81,7 +82,7 @@ module _ (v : Seen) (f : Format) (maxInput maxOutput k : ℕ) (small : v .size �
   unfolding planChecks areaChecks Holds
   planned-fee e =
       let x = holds-then (placeChecks v f k) (areaChecks v f maxOutput k) (fine (planChecks v f maxOutput k) .0 e) in
-      omega (arith, place-fine v f k .0 (x .0) .1 .1 .in-file, leb-true (10 * areaOf f k) maxOutput (x .1 .0))
+      omega (arith, place-fine v f k .0 (x .0) .1 .1 .in-file, leb-true (scratchFor (f .mono) (areaOf f k)) maxOutput (x .1 .0))
 
   -- and whatever it answers, it has charged no more than that
   pub segment-charges : (u e w : ℕ) → run (segmentChecks v f maxOutput k) u ≡ Refused e w → u - w ≤ maxInput + 2 * maxOutput + 1

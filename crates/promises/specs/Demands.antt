@@ -20,7 +20,7 @@ use Rattle.chelmesut.specs.Face.{ReadPatchy}
 use Rattle.promises.specs.Strict.{Good, Given, Inspects, Decodes, ReadsPage, Shows}
 use Rattle.promises.specs.StrictCall.{StrictCall, wholeView, inspectAnswer, decodeAnswer, decodeOutput, decodeScratch}
 use Rattle.promises.specs.StrictCall as strict
-use Rattle.promises.specs.Patchy.{Call, view, pageFormat, checks, Answered, RefusedWith, Reads, MarkedGood, definedPixel, PixelOf, segmentHere, placeHere, ShowsPixel, Blank, Alike, SameOutcome}
+use Rattle.promises.specs.Patchy.{Call, view, pageFormat, checks, Answered, RefusedWith, Reads, MarkedGood, definedPixel, PixelOf, pixelBytes, segmentHere, placeHere, ShowsPixel, Blank, Alike, SameOutcome}
 use Rattle.promises.specs.Patchy as patchy
 
 -- a number of a refusal (rule 1.1), up to the greatest that a reading gives
@@ -87,8 +87,9 @@ pub record Demand2 : Type 0 where
   pub reading-accepts : (c : Call) (s : Sizes) (w : ℕ) → Answered c s w ↔ Reads c s w
 
 -- Old data looks old. Bytes in blocks that did not come have no influence. In an answered reading a segment is good exactly when its entries and
--- stored bytes lie in the file and came and its packets are accepted; it then shows the defined pixels. One that isn't good shows six zero bytes
--- per pixel, which no good segment can show (rules 8.10, 8.6, 8.7 and 6.7).
+-- stored bytes lie in the file and came and its packets are accepted; it then shows the defined pixels. One that isn't good shows zero bytes alone,
+-- six per pixel of the colour head, which none of its good segments can show, and two of the monochrome head, where the quality byte alone tells
+-- (rules 8.10, 8.6, 8.7 and 6.7; that it does: proofs/Witness.antt, mono-good-blank).
 pub record Demand3 : Type 0 where
   -- two files of one length that agree in all blocks that came, read with one map, page, limits, budget and buffer lengths, get the same answer, budget
   -- left and, if answered, pixels and quality bytes, whatever the buffers held
@@ -98,12 +99,12 @@ pub record Demand3 : Type 0 where
   -- it then shows the pixels that the file itself defines
   pub good-shows : (c : Call) (s : Sizes) (w : ℕ) → Answered c s w → (x y : ℕ) → PixelOf c s x y → MarkedGood c (segmentHere c s x y)
       → ShowsPixel c s x y (definedPixel c x y)
-  -- one that isn't good shows six zero bytes for each of its pixels
+  -- one that isn't good shows zeros alone in each of its pixels
   pub others-blank : (c : Call) (s : Sizes) (w : ℕ) → Answered c s w → (x y : ℕ) → PixelOf c s x y → (MarkedGood c (segmentHere c s x y) → ⊥)
       → Blank c s x y
-  -- which no good segment can show
-  pub good-never-blank : (c : Call) (s : Sizes) (w : ℕ) → Answered c s w → (x y : ℕ) → PixelOf c s x y → MarkedGood c (segmentHere c s x y)
-      → Blank c s x y → ⊥
+  -- which no good segment of the colour head can show
+  pub good-never-blank : (c : Call) (s : Sizes) (w : ℕ) → Answered c s w → s .channels ≡ 3 → (x y : ℕ) → PixelOf c s x y
+      → MarkedGood c (segmentHere c s x y) → Blank c s x y → ⊥
 
 -- what a call at one of the two faces leaves of a reading with a delivery map: the number of its answer, the units left, the three buffers
 pub record Outcome : Type 0 where
@@ -125,7 +126,8 @@ pub record SameLeft (p q : Outcome) (c : Call) : Type 0 where
   pub one-number : p .number ≡ q .number
   pub one-budget : p .units ≡ q .units
   pub one-quality : p .quality ≡ q .quality
-  pub one-picture : (s : Sizes) (w : ℕ) → Answered c s w → take (6 * (s .width * s .height)) (p .output) ≡ take (6 * (s .width * s .height)) (q .output)
+  pub one-picture : (s : Sizes) (w : ℕ) → Answered c s w → take (2 * s .channels * (s .width * s .height)) (p .output)
+      ≡ take (2 * s .channels * (s .width * s .height)) (q .output)
 
 -- Demand 3 of the C function and of the named form.
 pub record Demand3AtFaces : Type 0 where
@@ -147,11 +149,11 @@ pub record Demand3AtFaces : Type 0 where
   pub good-exactly : (c : Call) (o : Outcome) → Leaves c o → (s : Sizes) (w : ℕ) → Answered c s w → (k : ℕ) → k < s .segments
       → (getD (o .quality) k 0 ≡ 1) ↔ Good (view c) (pageFormat c) k
   pub good-shows : (c : Call) (o : Outcome) → Leaves c o → (s : Sizes) (w : ℕ) → Answered c s w
-      → (x y b : ℕ) → PixelOf c s x y → b < 6 → getD (o .quality) (segmentHere c s x y) 0 ≡ 1
+      → (x y b : ℕ) → PixelOf c s x y → b < pixelBytes c s → getD (o .quality) (segmentHere c s x y) 0 ≡ 1
       → getD (o .output) (placeHere c s x y b) 0 ≡ getD (definedPixel c x y) b 0
   pub others-blank : (c : Call) (o : Outcome) → Leaves c o → (s : Sizes) (w : ℕ) → Answered c s w
-      → (x y b : ℕ) → PixelOf c s x y → b < 6 → (getD (o .quality) (segmentHere c s x y) 0 ≡ 1 → ⊥)
+      → (x y b : ℕ) → PixelOf c s x y → b < pixelBytes c s → (getD (o .quality) (segmentHere c s x y) 0 ≡ 1 → ⊥)
       → getD (o .output) (placeHere c s x y b) 0 ≡ 0
-  pub good-never-blank : (c : Call) (o : Outcome) → Leaves c o → (s : Sizes) (w : ℕ) → Answered c s w
+  pub good-never-blank : (c : Call) (o : Outcome) → Leaves c o → (s : Sizes) (w : ℕ) → Answered c s w → s .channels ≡ 3
       → (x y : ℕ) → PixelOf c s x y → getD (o .quality) (segmentHere c s x y) 0 ≡ 1
-      → ((b : ℕ) → b < 6 → getD (o .output) (placeHere c s x y b) 0 ≡ 0) → ⊥
+      → ((b : ℕ) → b < pixelBytes c s → getD (o .output) (placeHere c s x y b) 0 ≡ 0) → ⊥

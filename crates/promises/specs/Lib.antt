@@ -1,4 +1,5 @@
 pub mod Marked
+pub mod Heads
 pub mod Strict
 pub mod Upstream
 pub mod Words

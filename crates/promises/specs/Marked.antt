@@ -1,9 +1,10 @@
--- The marked cases (rules 10.1 to 10.13) as one list: what the definitions give, beside what the rule says.
-use Prim.Native.Nat.{ℕ, _*_, _/_, _%_}
+-- The marked cases (rules 10.1 to 10.15) as one list: what the definitions give, beside what the rule says.
+use Prim.Native.Nat.{ℕ, _/_, _%_}
 use mathlib.Core.Bool.{Bool, true, false}
 use mathlib.Core.List.{List, [], _∷_, _++_}
 use lib.ListN.{length, take, drop, replicate}
 use Rattle.lists.specs.Lists.{pick, tabulate}
+use Rattle.head.specs.Heads.{Head, colourHead, monoHead}
 use Rattle.checks.specs.Numbers.{verdictNumber}
 use Rattle.checks.specs.Checks.{verdict}
 use Rattle.seen.specs.Seen.{Seen, seen}
@@ -15,7 +16,7 @@ use Rattle.profile.specs.declared.Numbers.{Numbers}
 use Rattle.profile.specs.declared.Shape.{Shape}
 use Rattle.packets.specs.Packets.{lenOf, rangeChecks, expand}
 use Rattle.pixel.specs.Luv.{uv, pixels}
-use Rattle.geometry.specs.Costs.{fee}
+use Rattle.geometry.specs.Costs.{neededFor, fee}
 use Rattle.picture.specs.declared.Format.{Format}
 use Rattle.picture.specs.Picture.{pictureOf}
 use Rattle.plan.specs.Plan.{countOf, feeOf}
@@ -36,15 +37,20 @@ case n x y = record { number = n; gives = x; says = y }
 abbrev answer : ℕ → List ℕ → ℕ
 answer needed packets = verdictNumber (verdict (rangeChecks packets 0 (length packets) 2 needed))
 
--- one row at block width 2: the answer, the pixels, the fee
-abbrev caseShown : List ℕ → List ℕ
-caseShown packets = (answer 8 packets ∷ []) ++ (pixels 2 1 (expand packets 0) ++ (fee (length packets) (2 * 1) ∷ []))
+-- one row of a head at block width 2: the answer, the pixels, the fee
+abbrev caseShown : Head → List ℕ → List ℕ
+caseShown head packets =
+    (answer (neededFor head 2) packets ∷ []) ++ (pixels head 2 1 (expand packets 0) ++ (fee head (length packets) 2 ∷ []))
 
 abbrev pub first : List ℕ
 first = 0x80 ∷ 0x07 ∷ 0x80 ∷ 0x01 ∷ 0x80 ∷ 0x02 ∷ 0x80 ∷ 0x03 ∷ []
 
 abbrev pub onePixel : List ℕ
 onePixel = 0x01 ∷ 0x07 ∷ 0xC7 ∷ 0x00 ∷ 0x17 ∷ 0x01 ∷ []
+
+-- two pixels of the monochrome head without light
+abbrev pub noLight : List ℕ
+noLight = 0x80 ∷ 0x00 ∷ 0x80 ∷ 0x00 ∷ []
 
 -- the rows of each segment, in the segments' order
 abbrev rowsOfEach : Shape → List ℕ
@@ -104,8 +110,8 @@ twoStripsSay =
 
 unfoldable pub cases : List Case
 cases =
-    case 1 (caseShown first) ((0 ∷ []) ++ (onePixel ++ (onePixel ++ (49 ∷ []))))
-    ∷ case 2 (caseShown (first ++ (0x00 ∷ []))) ((0 ∷ []) ++ (onePixel ++ (onePixel ++ (50 ∷ []))))
+    case 1 (caseShown colourHead first) ((0 ∷ []) ++ (onePixel ++ (onePixel ++ (49 ∷ []))))
+    ∷ case 2 (caseShown colourHead (first ++ (0x00 ∷ []))) ((0 ∷ []) ++ (onePixel ++ (onePixel ++ (50 ∷ []))))
     ∷ case 3 (answer 8 (0x83 ∷ drop 1 first) ∷ []) (2 ∷ [])
     ∷ case 4 (answer 8 (take 6 first) ∷ answer 8 (take 7 first) ∷ []) (1 ∷ 1 ∷ [])
     ∷ case 5 (answer 8 (first ++ (0x01 ∷ 0x09 ∷ [])) ∷ []) (2 ∷ [])
@@ -117,4 +123,6 @@ cases =
     ∷ case 11 (drop 8 (samples true true 2 1 1 2 (replicate 8 0xFF ++ (2 ∷ replicate 7 0)))) (1 ∷ replicate 7 0)
     ∷ case 12 (gathered 4 1 2 true (1 ∷ 1 ∷ 1 ∷ 1 ∷ [])) (3 ∷ 1 ∷ 4 ∷ 2 ∷ [])
     ∷ case 13 (twoStripsShown false ++ twoStripsShown true) (twoStripsSay ++ twoStripsSay)
+    ∷ case 14 (caseShown monoHead (take 4 first)) (0 ∷ 0x01 ∷ 0x07 ∷ 0x01 ∷ 0x07 ∷ 21 ∷ [])
+    ∷ case 15 (caseShown monoHead noLight) ((0 ∷ []) ++ (replicate 4 0 ++ (21 ∷ [])))
     ∷ []

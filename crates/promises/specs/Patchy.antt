@@ -101,7 +101,7 @@ module _ (c : Call) where
 abbrev pub MarkedGood : Call → ℕ → Type 0
 MarkedGood c k = getD (qualityThen c) k 0 ≡ 1
 
--- the six bytes that the file itself defines for pixel (x, y), whatever came
+-- the bytes that the file itself defines for pixel (x, y), whatever came
 abbrev pub definedPixel : Call → ℕ → ℕ → List ℕ
 definedPixel c x y = pixelSeen (seen (c .file) []) (formatSeen (seen (c .file) []) (c .page)) x y
 
@@ -111,19 +111,23 @@ module _ (c : Call) (s : Sizes) where
   abbrev pub PixelOf : ℕ → ℕ → Type 0
   PixelOf x y = (x < s .width) × (y < s .height)
 
+  -- it has two bytes for each channel
+  abbrev pub pixelBytes : ℕ
+  pixelBytes = 2 * s .channels
+
   -- its segment, and the place of its byte b in the output
   abbrev pub segmentHere : ℕ → ℕ → ℕ
   segmentHere x y = segmentOf (s .«block_width») (s .«block_height») (pageFormat c .across) x y
 
   abbrev pub placeHere : ℕ → ℕ → ℕ → ℕ
-  placeHere x y b = (y * s .width + x) * 6 + b
+  placeHere x y b = (y * s .width + x) * pixelBytes + b
 
-  -- it shows these six bytes, or six zeros
+  -- it shows these bytes, or zeros alone
   abbrev pub ShowsPixel : ℕ → ℕ → List ℕ → Type 0
-  ShowsPixel x y bytes = (b : ℕ) → b < 6 → getD (outputThen c) (placeHere x y b) 0 ≡ getD bytes b 0
+  ShowsPixel x y bytes = (b : ℕ) → b < pixelBytes → getD (outputThen c) (placeHere x y b) 0 ≡ getD bytes b 0
 
   abbrev pub Blank : ℕ → ℕ → Type 0
-  Blank x y = (b : ℕ) → b < 6 → getD (outputThen c) (placeHere x y b) 0 ≡ 0
+  Blank x y = (b : ℕ) → b < pixelBytes → getD (outputThen c) (placeHere x y b) 0 ≡ 0
 
 -- two calls with one map, page, limits and units, buffers of the same lengths, and files of one length that agree in every block that came (rule 8.10)
 pub record Alike (a b : Call) : Type 0 where
@@ -139,8 +143,8 @@ pub record Alike (a b : Call) : Type 0 where
 -- one answer with the same units left, the same picture where there is one, the same quality bytes (rule 8.10)
 pub record SameOutcome (a b : Call) : Type 0 where
   pub answers : answer a ≡ answer b
-  pub pixels : (s : Sizes) (w : ℕ) → answer b ≡ Picture s w → take (6 * (s .width * s .height)) (outputThen a)
-      ≡ take (6 * (s .width * s .height)) (outputThen b)
+  pub pixels : (s : Sizes) (w : ℕ) → answer b ≡ Picture s w → take (2 * s .channels * (s .width * s .height)) (outputThen a)
+      ≡ take (2 * s .channels * (s .width * s .height)) (outputThen b)
   pub marks : qualityThen a ≡ qualityThen b
 
 -- every byte of a call's file came

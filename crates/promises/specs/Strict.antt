@@ -4,6 +4,7 @@ use Prim.Native.Nat.{ℕ, _+_, _-_, _*_, _%_, _<_, _≤_}
 use mathlib.Core.Path.{_≡_}
 use mathlib.Core.List.{List}
 use lib.ListN.{length, getD}
+use Rattle.head.specs.Heads.{planesOf, bytesOf}
 use Rattle.checks.specs.Sizes.{most64}
 use Rattle.seen.specs.Seen.{Seen, There}
 use Rattle.header.specs.Header.{bigEndian, firstOf, HeaderFine}
@@ -18,7 +19,7 @@ use Rattle.tiff.specs.Accepted.{WalkFine}
 use Rattle.profile.specs.Accepted.{ProfileFine}
 use Rattle.front.specs.Accepted.{frontFee}
 use Rattle.packets.specs.Packets.{Fills, expand}
-use Rattle.pixel.specs.Luv.{pixel}
+use Rattle.pixel.specs.Luv.{pixelOf}
 use Rattle.picture.specs.Picture.{areaOf}
 use Rattle.plan.specs.Plan.{offsetOf, countOf, feeOf}
 use Rattle.logluv_segment.specs.Segment.{stored, feesOf}
@@ -30,12 +31,12 @@ pub record Good (v : Seen) (f : Format) (k : ℕ) : Type 0 where
   pub offset-there : There v (placeOf v (f .big) (f .offsets) k) (sizeOf v (f .big) (f .offsets))
   pub count-there : There v (placeOf v (f .big) (f .counts) k) (sizeOf v (f .big) (f .counts))
   pub range-there : There v (offsetOf v f k) (countOf v f k)
-  pub packets : Fills (f .«block_width») (stored v f k) (4 * areaOf f k)
+  pub packets : Fills (f .«block_width») (stored v f k) (planesOf (f .mono) * areaOf f k)
 
--- good, with 10A and the fee allowed (rule 4.2)
+-- good, with (p + b)A and the fee allowed (rule 4.2)
 pub record SegmentFine (v : Seen) (f : Format) (maxOutput k : ℕ) : Type 0 where
   pub good : Good v f k
-  pub room-allowed : 10 * areaOf f k ≤ maxOutput
+  pub room-allowed : (planesOf (f .mono) + bytesOf (f .mono)) * areaOf f k ≤ maxOutput
   pub fee-fits : feeOf v f k ≤ most64
 
 -- the limits on the file and the page, and the front part
@@ -85,28 +86,29 @@ pub record ReadsPage (v : Seen) (page : ℕ) (l : Limits) (output scratch u w : 
   pub rest : w ≡ u - (inspectionCharge v page + handleOf v page .work)
   pub handle-is : h ≡ handleOf v page
 
--- the largest 10A of a format's segments: none needs more, and segment 0 needs so much (rule 7.3)
+-- the largest (p + b)A of a format's segments: none needs more, and segment 0 needs so much (rule 7.3)
 pub record Largest (f : Format) (scratch : ℕ) : Type 0 where
-  pub none-more : (k : ℕ) → k < f .segments → 10 * areaOf f k ≤ scratch
+  pub none-more : (k : ℕ) → k < f .segments → (planesOf (f .mono) + bytesOf (f .mono)) * areaOf f k ≤ scratch
   pub some-segment : 0 < f .segments
-  pub first-all : 10 * areaOf f 0 ≡ scratch
+  pub first-all : (planesOf (f .mono) + bytesOf (f .mono)) * areaOf f 0 ≡ scratch
 
--- the six bytes of pixel (x, y): L, uv(u) and uv(v), little-endian, from the four planes of its row in its segment (rules 6.1, 6.2 and 6.5)
+-- the bytes of pixel (x, y) by the planes of its row in its segment: L and, for colour, uv(u) and uv(v), little-endian (rules 6.1, 6.2 and 6.5)
+abbrev pub placeIn : Format → ℕ → ℕ → ℕ → ℕ
+placeIn f x y plane = y % f .«block_height» * (planesOf (f .mono) * f .«block_width») + (plane * f .«block_width» + x % f .«block_width»)
+
 module _ (v : Seen) (f : Format) (x y : ℕ) where
   abbrev pub planeByte : ℕ → ℕ
-  planeByte plane =
-      getD (expand (stored v f (segmentOf (f .«block_width») (f .«block_height») (f .across) x y)) 0)
-      (y % f .«block_height» * (4 * f .«block_width») + (plane * f .«block_width» + x % f .«block_width»)) 0
+  planeByte plane = getD (expand (stored v f (segmentOf (f .«block_width») (f .«block_height») (f .across) x y)) 0) (placeIn f x y plane) 0
 
   abbrev pub pixelSeen : List ℕ
-  pixelSeen = pixel (planeByte 0) (planeByte 1) (planeByte 2) (planeByte 3)
+  pixelSeen = pixelOf (f .mono) planeByte
 
 -- what stands in the two lent buffers after a handle's picture is shown: each byte of pixel (x, y) as defined, what came after the picture as it
 -- was, and scratch zero as far as its size (rule 7.5)
 pub record Shows (v : Seen) (h : Handle) (output scratch output′ scratch′ : List ℕ) : Type 0 where
-  pub pixel-bytes : (x y b : ℕ) → x < h .format .width → y < h .format .height → b < 6
-      → getD output′ ((y * h .format .width + x) * 6 + b) 0 ≡ getD (pixelSeen v (h .format) x y) b 0
-  pub output-tail : (q : ℕ) → 6 * (h .format .width * h .format .height) ≤ q → getD output′ q 0 ≡ getD output q 0
+  pub pixel-bytes : (x y b : ℕ) → x < h .format .width → y < h .format .height → b < bytesOf (h .format .mono)
+      → getD output′ ((y * h .format .width + x) * bytesOf (h .format .mono) + b) 0 ≡ getD (pixelSeen v (h .format) x y) b 0
+  pub output-tail : (q : ℕ) → bytesOf (h .format .mono) * (h .format .width * h .format .height) ≤ q → getD output′ q 0 ≡ getD output q 0
   pub output-long : length output′ ≡ length output
   pub scratch-zero : (q : ℕ) → q < h .scratch → getD scratch′ q 0 ≡ 0
   pub scratch-tail : (q : ℕ) → h .scratch ≤ q → getD scratch′ q 0 ≡ getD scratch q 0
