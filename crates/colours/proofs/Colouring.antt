@@ -17,8 +17,8 @@ use Rattle.lists.proofs.Wrote.{fills}
 use Rattle.checks.specs.Sizes.{most64}
 use Rattle.checks.proofs.Sizes.{Known, fits-is, over-is}
 use Rattle.geometry.specs.Geometry.{pieces, byteSegment}
-use Rattle.summary.specs.Grey.{lightAt}
-use Rattle.colours.specs.Colours.{toneOf, colourOf, pixelSegment, colourAt, colouredIn}
+use Rattle.summary.specs.Grey.{lightAt, wholePixels}
+use Rattle.colours.specs.Colours.{toneOf, colourOf, pixelSegment, colourAt, colouredIn, coloursIn}
 use Rattle.colours.specs.Inner.{Gridded, Colourable}
 
 module _ (l : ℕ) where
@@ -85,10 +85,11 @@ module _ (width across bw bh p : ℕ) where
 pub ruleset segments = (row-fits, segment-fits, segment-known, needs)
 
 -- one pixel more
-pub colour-known : (picture quality : List ℕ) (width bw bh p : ℕ) {k code l tone r : ℕ} → k ≡ pixelSegment width bw bh p → code ≡ getD quality k 0
-    → l ≡ lightAt picture p → tone ≡ toneOf l → r ≡ colourOf code tone → r ≡ colourAt picture quality width bw bh p
+pub colour-known : (size : ℕ) (picture quality : List ℕ) (width bw bh p : ℕ) {k code l tone r : ℕ} → k ≡ pixelSegment width bw bh p
+    → code ≡ getD quality k 0 → l ≡ lightAt size picture p → tone ≡ toneOf l → r ≡ colourOf code tone
+    → r ≡ colourAt size picture quality width bw bh p
 unfolding colourAt
-colour-known picture quality width bw bh p ek ec el et er = er ∙ rw (ec, ek, et, el)
+colour-known size picture quality width bw bh p ek ec el et er = er ∙ rw (ec, ek, et, el)
 
 pub ruleset colouring = (colour-known, fills, needs)
 
@@ -154,18 +155,18 @@ module _ (width height bw bh most : ℕ) where
 
 pub ruleset counting = (none-wide, block-narrow, block-flat, above-all, above-most, all-coloured, fits-is, over-is, needs)
 
-module _ (width height bw bh bytes room most n : ℕ) where
-  pub colours-room : most ≤ bytes / 6 → most ≤ room → n ≡ colouredIn width height bw bh most → (n ≡ 0 → ⊥) → Colourable width bw bh n bytes room
+module _ (size width height bw bh bytes room whole most n : ℕ) (w : whole ≡ wholePixels size bytes) where
+  pub colours-room : most ≤ whole → most ≤ room → n ≡ colouredIn width height bw bh most → (n ≡ 0 → ⊥) → Colourable size width bw bh n bytes room
   colours-room a b e some =
       let few = colours-few width height bw bh most n e some in
       record { grid = colours-grid width height bw bh most n e some; shown = omega arith; roomy = omega arith }
 
-module _ (width height bw bh most room n : ℕ) (q : most ≡ room) (e : n ≡ colouredIn width height bw bh most) where
-  pub counted-in : n ≡ colouredIn width height bw bh room
-  counted-in = e ∙ rw q
+  module _ (q : most ≡ lesser whole room) (e : n ≡ colouredIn width height bw bh most) where
+    pub counted-in : n ≡ coloursIn size width height bw bh bytes room
+    counted-in = e ∙ rw (q, w)
 
-  pub none-in : n ≡ 0 → 0 ≡ colouredIn width height bw bh room
-  none-in z = sym z ∙ counted-in
+    pub none-in : n ≡ 0 → 0 ≡ coloursIn size width height bw bh bytes room
+    none-in z = sym z ∙ counted-in
 
 -- no pixel is coloured
 pub none-over : (f : ℕ → ℕ) (old : List ℕ) → old ≡ overlay (tabulate 0 f) old
@@ -183,9 +184,9 @@ coloured-most width height bw bh most = by (eqb (colouredIn width height bw bh m
 pub ruleset coloured = (colours-room, counted-in, none-in, none-over, needs)
 
 -- For readers: a pixel's segment is that of its bytes in the picture's output
-pub segment-of-bytes : (width bw bh k : ℕ) → byteSegment 6 width bw bh (pieces width bw) k ≡ pixelSegment width bw bh (k / 6)
+pub segment-of-bytes : (size width bw bh k : ℕ) → byteSegment size width bw bh (pieces width bw) k ≡ pixelSegment width bw bh (k / size)
 unfolding byteSegment pixelSegment
-segment-of-bytes width bw bh k = refl
+segment-of-bytes size width bw bh k = refl
 
 -- A grey is shown exactly where the code is good: a pixel that did not come is never taken for a dark one.
 pub good-is-grey : (code tone : ℕ) → code ≡ 1 → colourOf code tone ≤ 252
@@ -203,12 +204,12 @@ grey-is-good code tone = by (eqb code 1) (eqb code 3) (eqb code 4) refl
     by false false false e h = absurd (omega arith)
 
 -- the same of a picture's pixel
-pub shown-grey : (picture quality : List ℕ) (width bw bh p : ℕ)
-    → colourAt picture quality width bw bh p ≤ 252 → getD quality (pixelSegment width bw bh p) 0 ≡ 1
+pub shown-grey : (size : ℕ) (picture quality : List ℕ) (width bw bh p : ℕ)
+    → colourAt size picture quality width bw bh p ≤ 252 → getD quality (pixelSegment width bw bh p) 0 ≡ 1
 unfolding colourAt
-shown-grey picture quality width bw bh p h = grey-is-good _ _ h
+shown-grey size picture quality width bw bh p h = grey-is-good _ _ h
 
-pub shown-good : (picture quality : List ℕ) (width bw bh p : ℕ)
-    → getD quality (pixelSegment width bw bh p) 0 ≡ 1 → colourAt picture quality width bw bh p ≤ 252
+pub shown-good : (size : ℕ) (picture quality : List ℕ) (width bw bh p : ℕ)
+    → getD quality (pixelSegment width bw bh p) 0 ≡ 1 → colourAt size picture quality width bw bh p ≤ 252
 unfolding colourAt
-shown-good picture quality width bw bh p e = good-is-grey _ _ e
+shown-good size picture quality width bw bh p e = good-is-grey _ _ e

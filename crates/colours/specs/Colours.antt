@@ -6,7 +6,7 @@ use lib.ListN.{getD}
 use lib.Dec.{ltb, eqb}
 use Rattle.lists.specs.Lists.{pick, lesser}
 use Rattle.geometry.specs.Geometry.{pieces, segmentOf}
-use Rattle.summary.specs.Grey.{lightAt}
+use Rattle.summary.specs.Grey.{lightAt, wholePixels}
 
 -- Eight greys for each doubling of light, so that a scene's few doublings can be told apart: 128 is L 16384, which is light 1; black is 16
 -- doublings darker, and a negative L
@@ -21,10 +21,15 @@ colourOf code tone = pick (eqb code 1) (lesser tone 252) (pick (eqb code 3) 254 
 unfoldable pub pixelSegment : ℕ → ℕ → ℕ → ℕ → ℕ
 pixelSegment width bw bh p = segmentOf bw bh (pieces width bw) (p % width) (p / width)
 
-unfoldable pub colourAt : List ℕ → List ℕ → ℕ → ℕ → ℕ → ℕ → ℕ
-colourAt picture quality width bw bh p = colourOf (getD quality (pixelSegment width bw bh p) 0) (toneOf (lightAt picture p))
+-- the colour of pixel p of a picture of `size` bytes a pixel
+unfoldable pub colourAt : ℕ → List ℕ → List ℕ → ℕ → ℕ → ℕ → ℕ → ℕ
+colourAt size picture quality width bw bh p = colourOf (getD quality (pixelSegment width bw bh p) 0) (toneOf (lightAt size picture p))
 
 -- how many pixels are coloured: all, or none where a side is 0 or where they are more than can be
 unfoldable pub colouredIn : ℕ → ℕ → ℕ → ℕ → ℕ → ℕ
 colouredIn width height bw bh most =
     pick (eqb width 0) 0 (pick (eqb bw 0) 0 (pick (eqb bh 0) 0 (pick (ltb most (width * height)) 0 (width * height))))
+
+-- the same of a picture of so many bytes and of so much room
+abbrev pub coloursIn : ℕ → ℕ → ℕ → ℕ → ℕ → ℕ → ℕ → ℕ
+coloursIn size width height bw bh bytes room = colouredIn width height bw bh (lesser (wholePixels size bytes) room)

@@ -3,10 +3,10 @@ use checks::Size;
 use summary::grey;
 ghost use mathlib.Core.Path.{_≡_};
 ghost use lib.ListN.{length, getD};
-ghost use Prim.Native.Nat.{_/_, _≤_};
-ghost use Rattle.lists.specs.Lists.{lesser, tabulate, overlay};
+ghost use Prim.Native.Nat.{_≤_};
+ghost use Rattle.lists.specs.Lists.{tabulate, overlay};
 ghost use Rattle.geometry.specs.Geometry.{pieces};
-ghost use Rattle.colours.specs.Colours.{toneOf, colourOf, pixelSegment, colourAt, colouredIn};
+ghost use Rattle.colours.specs.Colours.{toneOf, colourOf, pixelSegment, colourAt, colouredIn, coloursIn};
 ghost use Rattle.colours.specs.Inner.{Gridded, Colourable};
 
 fn tone_of(l: usize) -> usize
@@ -52,6 +52,7 @@ fn segment_of(
 
 // The colours of the first n pixels.
 fn fill(
+    size: usize,
     picture: &[u8],
     quality: &[u8],
     width: usize,
@@ -60,16 +61,19 @@ fn fill(
     n: usize,
     out: &mut [u8],
 )
-    requires { ⌜ Colourable width «block_width» «block_height» n (length (now picture)) (length (now out)) ⌝ }
+    requires { ⌜ Colourable size width «block_width» «block_height» n (length (now picture)) (length (now out)) ⌝ }
     ensures { λ _.
-        ⌜ now (out .exit) ≡ overlay (tabulate n (colourAt (now (picture .entry)) (now (quality .entry)) width «block_width» «block_height»))
+        ⌜ now (out .exit) ≡ overlay (tabulate n (colourAt size (now (picture .entry)) (now (quality .entry)) width «block_width» «block_height»))
         (now (out .entry)) ⌝ }
 {
     let across = geometry::pieces_of(width, block_width);
     let mut p: usize = 0;
     while p < n {
         let k = segment_of(width, across, block_width, block_height, p);
-        out[p] = colour_of(code_at(quality, k), tone_of(grey::light_at(picture, p)));
+        out[p] = colour_of(
+            code_at(quality, k),
+            tone_of(grey::light_at(size, picture, p)),
+        );
         p += 1;
     }
 }
@@ -93,8 +97,10 @@ fn count(width: usize, height: usize, block_width: usize, block_height: usize, m
     if most < n { 0 } else { n }
 }
 
-// The colours of all pixels at the start of the buffer, and how many there are. Where there are none the buffer stays.
+// The colours of all pixels, of so many bytes each, at the start of the buffer, and how many there are. Where there are none the
+// buffer stays.
 pub fn put_colours(
+    size: usize,
     picture: &[u8],
     quality: &[u8],
     width: usize,
@@ -104,16 +110,25 @@ pub fn put_colours(
     out: &mut [u8],
 ) -> usize
     ensures answer { λ r.
-        ⌜ r ≡ colouredIn width height «block_width» «block_height» (lesser (length (now (picture .entry)) / 6) (length (now (out .entry)))) ⌝ }
+        ⌜ r ≡ coloursIn size width height «block_width» «block_height» (length (now (picture .entry))) (length (now (out .entry))) ⌝ }
     ensures buffer { λ r.
-        ⌜ now (out .exit) ≡ overlay (tabulate r (colourAt (now (picture .entry)) (now (quality .entry)) width «block_width» «block_height»))
+        ⌜ now (out .exit) ≡ overlay (tabulate r (colourAt size (now (picture .entry)) (now (quality .entry)) width «block_width» «block_height»))
         (now (out .entry)) ⌝ }
 {
-    let most = records::least(picture.len() / 6, out.len());
+    let most = records::least(grey::whole_pixels(size, picture.len()), out.len());
     let n = count(width, height, block_width, block_height, most);
     if n == 0 {
         return 0;
     }
-    fill(picture, quality, width, block_width, block_height, n, out);
+    fill(
+        size,
+        picture,
+        quality,
+        width,
+        block_width,
+        block_height,
+        n,
+        out,
+    );
     n
 }

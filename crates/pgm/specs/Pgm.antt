@@ -20,14 +20,14 @@ unfoldable pub headerOf : ℕ → ℕ → List ℕ
 headerOf width height =
     (80 ∷ 53 ∷ 10 ∷ []) ++ decimalOf width ++ (32 ∷ []) ++ decimalOf height ++ (10 ∷ 50 ∷ 53 ∷ 53 ∷ 10 ∷ [])
 
--- the grey values of a picture's pixels, as far as so much room goes
-abbrev pub greysIn : ℕ → ℕ → List ℕ → ℕ → List ℕ
-greysIn width height picture room = tabulate (pixelsIn width height (length picture) room) (greyAt picture)
+-- the grey values of a picture's pixels, of `size` bytes each, as far as so much room goes
+abbrev pub greysIn : ℕ → ℕ → ℕ → List ℕ → ℕ → List ℕ
+greysIn size width height picture room = tabulate (pixelsIn size width height (length picture) room) (greyAt size picture)
 
 -- header and grey values, in so much room
-abbrev pub pgmOf : ℕ → ℕ → List ℕ → ℕ → List ℕ
-pgmOf width height picture room = headerOf width height ++ greysIn width height picture (room - length (headerOf width height))
+abbrev pub pgmOf : ℕ → ℕ → ℕ → List ℕ → ℕ → List ℕ
+pgmOf size width height picture room = headerOf width height ++ greysIn size width height picture (room - length (headerOf width height))
 
 -- no bytes where there is no room for a header of the largest sides, which has 49
-unfoldable pub pgmIn : ℕ → ℕ → List ℕ → ℕ → List ℕ
-pgmIn width height picture room = pick (ltb room 49) [] (pgmOf width height picture room)
+unfoldable pub pgmIn : ℕ → ℕ → ℕ → List ℕ → ℕ → List ℕ
+pgmIn size width height picture room = pick (ltb room 49) [] (pgmOf size width height picture room)

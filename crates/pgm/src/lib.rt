@@ -30,25 +30,34 @@ fn put_header(width: usize, height: usize, out: &mut [u8]) -> usize
 }
 
 // The grey values of all pixels into the buffer at a place, as far as there is room; the place after them.
-fn put_pixels(picture: &[u8], width: usize, height: usize, start: usize, out: &mut [u8]) -> usize
+fn put_pixels(
+    size: usize,
+    picture: &[u8],
+    width: usize,
+    height: usize,
+    start: usize,
+    out: &mut [u8],
+) -> usize
     requires { ⌜ start ≤ length (now out) ⌝ }
     ensures { λ r.
-        ⌜ BytesPlaced (greysIn width height (now (picture .entry)) (length (now (out .entry)) - start)) start (now (out .entry)) r (now (out .exit)) ⌝ }
+        ⌜ BytesPlaced (greysIn size width height (now (picture .entry)) (length (now (out .entry)) - start)) start (now (out .entry)) r
+        (now (out .exit)) ⌝ }
 {
-    let most = records::least(picture.len() / 6, out.len() - start);
+    let most = records::least(grey::whole_pixels(size, picture.len()), out.len() - start);
     let end = start + grey::pixels_of(width, height, most);
-    grey::put_grey(picture, &mut out[start..end]);
+    grey::put_grey(size, picture, &mut out[start..end]);
     end
 }
 
-// The file's bytes at the start of the buffer, and how many there are: none where the longest header has no room.
-pub fn put(picture: &[u8], width: usize, height: usize, out: &mut [u8]) -> usize
+// The file's bytes at the start of the buffer, and how many there are: none where the longest header has no room. The picture has
+// so many bytes a pixel; where these lack the two of L, the header stands alone.
+pub fn put(size: usize, picture: &[u8], width: usize, height: usize, out: &mut [u8]) -> usize
     ensures { λ r. ⌜ Counts r (now (out .exit)) ⌝ }
-    ensures { λ r. ⌜ take r (now (out .exit)) ≡ pgmIn width height (now (picture .entry)) (length (now (out .entry))) ⌝ }
+    ensures { λ r. ⌜ take r (now (out .exit)) ≡ pgmIn size width height (now (picture .entry)) (length (now (out .entry))) ⌝ }
 {
     if out.len() < 49 {
         return 0;
     }
     let start = put_header(width, height, out);
-    put_pixels(picture, width, height, start, out)
+    put_pixels(size, picture, width, height, start, out)
 }

@@ -1,2 +1,3 @@
 pub mod ColourFile
 pub mod Lengths
+pub mod PixelBytes

@@ -6,6 +6,7 @@ use patchy::Reading;
 use patchy::Sizes;
 ghost use mathlib.Core.Path.{_≡_};
 ghost use lib.ListN.{length};
+ghost use Rattle.report.specs.Pixels.{bytesFor};
 
 // The names that a program is given.
 pub mod arguments;
@@ -58,6 +59,13 @@ fn limits() -> Limits {
     }
 }
 
+// The bytes of a pixel: two for L, and in a colour picture two more for each of u and v.
+fn bytes_a_pixel(channels: usize) -> usize
+    ensures { λ r. ⌜ r ≡ bytesFor channels ⌝ }
+{
+    if channels == 1 { 2 } else { 6 }
+}
+
 // That nothing is written, where something was to be.
 pub fn put_unwritten(out: &[u8], kind: Kind) {
     match kind {
@@ -74,12 +82,13 @@ fn report_refusal(out: &[u8], kind: Kind, map: &[u8], number: u8, left: usize) {
     put_unwritten(out, kind);
 }
 
-// The sizes, the blocks, the quality of each segment and the charge.
+// The sizes, the blocks, the quality of each segment, what to mind there, and the charge.
 fn report_picture(map: &[u8], sizes: Sizes, quality: &[u8], left: usize) {
     let n = records::least(sizes.segments, quality.len());
     lines::put_sizes(sizes);
     lines::put_blocks(map);
     lines::put_quality(&quality[0..n]);
+    lines::put_caution(sizes);
     lines::put_charge(left);
 }
 

@@ -6,6 +6,9 @@ use summary::marks;
 pub fn put_sizes(sizes: Sizes) {
     say::number(b"  pixels    ", sizes.width);
     say::number(b" x ", sizes.height);
+    if sizes.channels == 1 {
+        say::text(b", monochrome");
+    }
     say::number(b"\n  segments  ", sizes.segments);
     say::number(b", each at most ", sizes.block_width);
     say::number(b" x ", sizes.block_height);
@@ -52,6 +55,15 @@ pub fn put_quality(codes: &[u8]) {
     put_tally(codes, 2, b"did not come (2)\n");
     put_tally(codes, 3, b"outside the file (3)\n");
     put_tally(codes, 4, b"packets not accepted (4)\n");
+}
+
+// In a colour picture no pixel of a good segment is all zeros (rule 6.7).
+pub fn put_caution(sizes: Sizes) {
+    if sizes.channels == 1 {
+        say::text(
+            b"            two zero bytes can be a pixel here: the quality alone tells what is good\n",
+        );
+    }
 }
 
 // What is gone of all the units that there are.

@@ -1,4 +1,5 @@
 // The picture as a file for a browser (PNG): grey where a segment is good, a colour where it is not.
+use crate::bytes_a_pixel;
 use crate::complain;
 use crate::save;
 use patchy::Sizes;
@@ -9,6 +10,7 @@ ghost use Rattle.report.specs.PngFile.{pngFileOf};
 
 // The file's bytes in the place of the picture, and how many there are. Scratch has the pixels' colours then.
 fn put_file(
+    size: usize,
     quality: &[u8],
     width: usize,
     height: usize,
@@ -19,10 +21,11 @@ fn put_file(
 ) -> usize
     ensures { λ r. ⌜ Counts r (now (picture .exit)) ⌝ }
     ensures { λ r.
-        ⌜ take r (now (picture .exit)) ≡ pngFileOf width height «block_width» «block_height» (now (picture .entry)) (now (quality .entry))
+        ⌜ take r (now (picture .exit)) ≡ pngFileOf size width height «block_width» «block_height» (now (picture .entry)) (now (quality .entry))
         (length (now (scratch .entry))) ⌝ }
 {
     let n = colours::put_colours(
+        size,
         picture,
         quality,
         width,
@@ -44,6 +47,7 @@ pub fn write(
     scratch: &mut [u8],
 ) {
     let n = put_file(
+        bytes_a_pixel(sizes.channels),
         quality,
         sizes.width,
         sizes.height,

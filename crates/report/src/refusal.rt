@@ -6,7 +6,7 @@ use header::Limits;
 fn put_limits(limits: Limits) {
     say::number(b"\n            here: at most ", limits.max_output);
     say::number(
-        b" bytes for the picture, six a pixel, and for a segment, ten a pixel; ",
+        b" bytes for the picture, six a pixel (monochrome two), and for a segment, ten a pixel (monochrome four); ",
         limits.max_segments,
     );
     say::number(b" segments, ", limits.max_tags);
@@ -26,8 +26,9 @@ pub fn put(number: u8, limits: Limits) {
         2 => say::text(b", Invalid: this is no TIFF file, or a directory or an entry is malformed"),
         3 => {
             say::text(
-                b", Unsupported: the picture is not of the kind that is read here, LogLuv (32845) in SGILog packets (34676), three samples of 16 bits",
+                b", Unsupported: the picture is not of a kind that is read here, LogLuv (32845) of three samples",
             );
+            say::text(b" or LogL (32844) of one, each of 16 bits, in SGILog packets (34676)");
             put_sides(limits);
         }
         4 => {

@@ -3,7 +3,9 @@ use report::complain::number;
 use report::complain::text;
 
 pub fn usage() {
-    text(b"usage: strips FILE [MAP [OUT]]\n  FILE  a LogLuv TIFF picture\n");
+    text(
+        b"usage: strips FILE [MAP [OUT]]\n  FILE  a LogLuv TIFF picture, in colour or monochrome\n",
+    );
     text(
         b"  MAP   its delivery map, a byte for each block of 512 bytes, 1 where the block came; without it the picture came whole\n",
     );

@@ -1,18 +1,21 @@
 -- A grey value by its L, and the grey values of a picture one after the other.
-use Prim.Native.Nat.{ℕ, _+_, _*_, _/_, _<_, _≤_}
-use mathlib.Core.Path.{_≡_, _∙_}
+use Prim.Native.Nat.{ℕ, suc, _+_, _*_, _/_, _<_, _≤_}
+use mathlib.Core.Path.{_≡_, refl, _∙_}
+use mathlib.Core.Bool.{Bool, true, false}
 use mathlib.Core.List.{List}
 use native.Mathlib.Omega.{arith}
+use native.Mathlib.Nat.{le-div-iff-mul-le}
+use lib.Dec.{ltb}
 use lib.ListN.{getD}
-use borrow.Author.Tests.{lt-ltb, le-ltb}
-use Rattle.lists.specs.Lists.{lesser}
+use borrow.Author.Tests.{lt-ltb, le-ltb, ltb-false}
+use Rattle.lists.specs.Lists.{pick, lesser}
 use Rattle.lists.proofs.Lesser.{lesser-second}
 use Rattle.checks.specs.Sizes.{within, most64}
 use Rattle.checks.specs.declared.Size.{Size}
 use Rattle.checks.specs.declared.Size.the-variants.{Fits, Over}
 use Rattle.checks.proofs.Sizes.{fits-is, over-is}
 use Rattle.placing.proofs.Filled.{filled}
-use Rattle.summary.specs.Grey.{greyOf, lightAt, greyAt}
+use Rattle.summary.specs.Grey.{greyOf, lightAt, greyAt, wholePixels}
 
 module _ (l : ℕ) where
   pub grey-light : l < 32768 → l / 128 ≡ greyOf l
@@ -23,13 +26,34 @@ module _ (l : ℕ) where
   unfolding greyOf
   grey-black h = rw (le-ltb _ _ h)
 
-pub light-read : (picture : List ℕ) (k : ℕ) {a b : ℕ} → a ≡ getD picture (6 * k) 0 → b ≡ getD picture (6 * k + 1) 0
-    → a + 256 * b ≡ lightAt picture k
-unfolding lightAt
-light-read picture k p q = rw (p, q)
+module _ (size : ℕ) (picture : List ℕ) (k : ℕ) where
+  pub light-read : {a b : ℕ} → a ≡ getD picture (size * k) 0 → b ≡ getD picture (size * k + 1) 0 → a + 256 * b ≡ lightAt size picture k
+  unfolding lightAt
+  light-read p q = rw (p, q)
 
-pub grey-known : (picture : List ℕ) (k : ℕ) {l r : ℕ} → l ≡ lightAt picture k → r ≡ greyOf l → r ≡ greyAt picture k
-grey-known picture k el er = er ∙ rw el
+  pub grey-known : {l r : ℕ} → l ≡ lightAt size picture k → r ≡ greyOf l → r ≡ greyAt size picture k
+  grey-known el er = er ∙ rw el
+
+-- whole pixels, and where the bytes of L of one of them are
+module _ (size bytes : ℕ) where
+  pub pixels-none : size < 2 → 0 ≡ wholePixels size bytes
+  unfolding wholePixels
+  pixels-none h = rw (lt-ltb _ _ h)
+
+  pub pixels-whole : 2 ≤ size → bytes / size ≡ wholePixels size bytes
+  unfolding wholePixels
+  pixels-whole h = rw (le-ltb _ _ h)
+
+  pub light-there : (k : ℕ) → k < wholePixels size bytes → size * k + 2 ≤ bytes
+  unfolding wholePixels
+  light-there k = by (ltb size 2) refl
+    where
+      by : (b : Bool) → ltb size 2 ≡ b → k < pick b 0 (bytes / size) → size * k + 2 ≤ bytes
+      by true t h = absurd (omega arith)
+      by false t h =
+          let two : 2 ≤ size = ltb-false size 2 t in
+          let all : suc k * size ≤ bytes = le-div-iff-mul-le {k = size} {x = suc k} {y = bytes} (omega arith) .0 h in
+          omega arith
 
 -- the number of pixels, where the product is known and where it is above all numbers
 module _ {s : Size} (a b most : ℕ) (e : s ≡ within (a * b)) where

@@ -1,10 +1,10 @@
-// The L plane as grey values.
+// The L plane as grey values, of a picture whose pixels have so many bytes each.
 use checks::Size;
 ghost use mathlib.Core.Path.{_≡_};
 ghost use Prim.Native.Nat.{_+_, _*_, _≤_};
 ghost use lib.ListN.{length};
 ghost use Rattle.lists.specs.Lists.{lesser, tabulate};
-ghost use Rattle.summary.specs.Grey.{greyOf, lightAt, greyAt};
+ghost use Rattle.summary.specs.Grey.{greyOf, lightAt, greyAt, wholePixels};
 
 fn grey_of(l: usize) -> u8
     ensures { λ r. ⌜ r ≡ greyOf l ⌝ }
@@ -12,24 +12,31 @@ fn grey_of(l: usize) -> u8
     if l < 32768 { (l / 128) as u8 } else { 0 }
 }
 
-// L of a pixel.
-pub fn light_at(picture: &[u8], k: usize) -> usize
-    requires { ⌜ 6 * k + 6 ≤ length (now picture) ⌝ }
-    ensures { λ r. ⌜ r ≡ lightAt (now (picture .entry)) k ⌝ }
+// How many whole pixels so many bytes are: none where a pixel lacks the two bytes of L.
+pub fn whole_pixels(size: usize, bytes: usize) -> usize
+    ensures { λ r. ⌜ r ≡ wholePixels size bytes ⌝ }
 {
-    let low = 6 * k;
+    if size < 2 { 0 } else { bytes / size }
+}
+
+// L of a pixel.
+pub fn light_at(size: usize, picture: &[u8], k: usize) -> usize
+    requires { ⌜ size * k + 2 ≤ length (now picture) ⌝ }
+    ensures { λ r. ⌜ r ≡ lightAt size (now (picture .entry)) k ⌝ }
+{
+    let low = size * k;
     let high = low + 1;
     records::wide(picture[low]) + 256 * records::wide(picture[high])
 }
 
 // A grey value for each pixel, as many as are lent.
-pub fn put_grey(picture: &[u8], grey: &mut [u8])
-    requires { ⌜ 6 * length (now grey) ≤ length (now picture) ⌝ }
-    ensures { λ _. ⌜ now (grey .exit) ≡ tabulate (length (now (grey .entry))) (greyAt (now (picture .entry))) ⌝ }
+pub fn put_grey(size: usize, picture: &[u8], grey: &mut [u8])
+    requires { ⌜ length (now grey) ≤ wholePixels size (length (now picture)) ⌝ }
+    ensures { λ _. ⌜ now (grey .exit) ≡ tabulate (length (now (grey .entry))) (greyAt size (now (picture .entry))) ⌝ }
 {
     let mut k: usize = 0;
     while k < grey.len() {
-        grey[k] = grey_of(light_at(picture, k));
+        grey[k] = grey_of(light_at(size, picture, k));
         k += 1;
     }
 }

@@ -1,6 +1,8 @@
 -- Each turn puts one colour after those so far.
 use Prim.Native.Nat.{_-_}
+use native.Mathlib.Omega.{arith}
 use Rattle.lists.proofs.Wrote.{Filling}
+use Rattle.summary.proofs.Greys.{light-there}
 use Rattle.colours.specs.Colours.{colourAt}
 use Rattle.colours.proofs.Colouring.{colouring}
 use borrow.Author.Needs.{needs}
@@ -8,10 +10,11 @@ use Rattle.colours.proofs.fill.Statement.{statement}
 use Rattle.colours.proofs.fill.Tie as tie
 
 abbrev Inv-loop : tie.InvT-loop
-Inv-loop picture quality width block-width block-height n out₀ across p₀ out p = Filling (colourAt picture quality width block-width block-height) n out₀ out p
+Inv-loop size picture quality width block-width block-height n out₀ across p₀ out p =
+    Filling (colourAt size picture quality width block-width block-height) n out₀ out p
 
 abbrev μ-loop : tie.MeasureT-loop
-μ-loop picture quality width block-width block-height n out₀ across p₀ out p = n - p
+μ-loop size picture quality width block-width block-height n out₀ across p₀ out p = n - p
 
 pieces-of-requires : tie.Need-pieces-of-requires Inv-loop μ-loop
 pieces-of-requires c κs = search needs
@@ -26,7 +29,7 @@ code-at-requires : tie.Need-code-at-requires Inv-loop μ-loop
 code-at-requires c κs = search needs
 
 light-at-requires : tie.Need-light-at-requires Inv-loop μ-loop
-light-at-requires c κs = search needs
+light-at-requires c κs = light-there _ _ _ (omega arith)
 
 tone-of-requires : tie.Need-tone-of-requires Inv-loop μ-loop
 tone-of-requires c κs = search needs

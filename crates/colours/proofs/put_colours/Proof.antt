@@ -4,6 +4,9 @@ use borrow.Author.Needs.{needs}
 use Rattle.colours.proofs.put_colours.Statement.{statement}
 use Rattle.colours.proofs.put_colours.Tie as tie
 
+whole-pixels-requires : tie.Need-whole-pixels-requires
+whole-pixels-requires c κs = search needs
+
 least-requires : tie.Need-least-requires
 least-requires c κs = search needs
 
@@ -24,4 +27,12 @@ returns-2 c = (search coloured, search coloured)
 
 pub put-colours-spec : {M : Type 1} → statement M
 put-colours-spec =
-    tie.close (tie.spec least-requires count-requires returns fill-requires same-length returns-2)
+    tie.close
+    (tie.spec
+    whole-pixels-requires
+    least-requires
+    count-requires
+    returns
+    fill-requires
+    same-length
+    returns-2)

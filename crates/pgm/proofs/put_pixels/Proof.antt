@@ -4,6 +4,9 @@ use Rattle.pgm.proofs.GreyFile.{grey-file}
 use Rattle.pgm.proofs.put_pixels.Statement.{statement}
 use Rattle.pgm.proofs.put_pixels.Tie as tie
 
+whole-pixels-requires : tie.Need-whole-pixels-requires
+whole-pixels-requires c κs = search needs
+
 sub-least : tie.Need-sub-least
 sub-least c = search needs
 
@@ -38,6 +41,7 @@ pub put-pixels-spec : {M : Type 1} → statement M
 put-pixels-spec =
     tie.close
     (tie.spec
+    whole-pixels-requires
     sub-least
     least-requires
     pixels-of-requires

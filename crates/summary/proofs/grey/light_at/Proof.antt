@@ -1,4 +1,4 @@
--- L is the first two bytes of six.
+-- L is the first two bytes of the pixel.
 use Rattle.summary.proofs.Greys.{greys}
 use borrow.Author.Needs.{needs}
 use Rattle.summary.proofs.grey.light_at.Statement.{statement}

@@ -1,24 +1,25 @@
 -- Each turn puts one grey value after those so far.
+use native.Mathlib.Omega.{arith}
 use borrow.Author.Needs.{needs}
 use Prim.Native.Nat.{_-_}
 use lib.ListN.{length}
 use Rattle.placing.proofs.Filled.{Filled}
 use Rattle.summary.specs.Grey.{greyAt}
-use Rattle.summary.proofs.Greys.{greys}
+use Rattle.summary.proofs.Greys.{greys, light-there}
 use Rattle.summary.proofs.grey.put_grey.Statement.{statement}
 use Rattle.summary.proofs.grey.put_grey.Tie as tie
 
 abbrev Inv-loop : tie.InvT-loop
-Inv-loop picture grey₀ k₀ grey k = Filled (greyAt picture) grey₀ grey k
+Inv-loop size picture grey₀ k₀ grey k = Filled (greyAt size picture) grey₀ grey k
 
 abbrev μ-loop : tie.MeasureT-loop
-μ-loop picture grey₀ k₀ grey k = length grey₀ - k
+μ-loop size picture grey₀ k₀ grey k = length grey₀ - k
 
 loop-holds : tie.Need-loop-holds Inv-loop μ-loop
 loop-holds c = search greys
 
 light-at-requires : tie.Need-light-at-requires Inv-loop μ-loop
-light-at-requires c κs = search needs
+light-at-requires c κs = light-there _ _ _ (omega arith)
 
 grey-of-requires : tie.Need-grey-of-requires Inv-loop μ-loop
 grey-of-requires c κs = search needs
