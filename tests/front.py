@@ -25,8 +25,16 @@ SCALARS = {0: 0, 1: 0, 3: 1, 4: 0, 5: 1, 7: 1, 8: 1, 9: 4294967295, 11: 1, 12: 1
 # How many bytes a value of each type has.
 SIZES = {3: 2, 4: 4}
 
+# The heads (rule 3.9): slots 4 and 8, of which the second is the channels, and p and b.
+Head = collections.namedtuple('Head', 'photometric channels planes bytes')
+HEADS = COLOUR, MONO = Head(32845, 3, 4, 6), Head(32844, 1, 2, 2)
+
+# How a record says which: by a number.
+def head_of(which):
+    return MONO if which == 1 else COLOUR
+
 Entry = collections.namedtuple('Entry', 'place tag kind count field')
-Format = collections.namedtuple('Format', 'width height tiled block_width block_height across segments output order offsets counts entries')
+Format = collections.namedtuple('Format', 'width height tiled block_width block_height across segments output order offsets counts entries head')
 
 # Arrival (rules 2.1, 8.2 and 8.3): a byte came if its block did, and all came where nothing is said of any block.
 def came(blocks, place):
@@ -126,35 +134,45 @@ def scalars(r, slots):
         values[slot] = r.number(e.field[:SIZES[e.kind]])
     return values
 
-# Profile, fourth step (rule 3.4): three values of one number, which are too long for the field and so stand elsewhere (rule 2.13).
-def three(r, e, wanted):
-    if e is None or e.kind not in SIZES or e.count != 3:
+# Value k of an array (rules 2.12 and 2.13). Where all fit into the field they stand there.
+def value(r, array, k):
+    size = SIZES[array.kind]
+    if size * array.count <= 4:
+        return r.number(array.field[size * k:size * (k + 1)])
+    return r.number(r.part(r.number(array.field) + size * k, size))
+
+# Profile, fourth step (rule 3.4): values of one number, as many as the head has channels.
+def alike(r, e, n, wanted):
+    if e is None or e.kind not in SIZES or e.count != n:
         raise Refused(3)
-    size, base = SIZES[e.kind], r.number(e.field)
-    for k in range(3):
-        if r.number(r.part(base + size * k, size)) != wanted:
+    for k in range(n):
+        if value(r, e, k) != wanted:
             raise Refused(3)
 
 def picture(r, page, limits):
     slots, n = directories(r, page, limits)
     r.charge(128)
-    value = scalars(r, slots)
-    width, height = value[0], value[1]
+    slot = scalars(r, slots)
+    width, height = slot[0], slot[1]
     if width < 1 or width > limits.dimension:
         raise Refused(3)
     if height < 1 or height > limits.dimension:
         raise Refused(3)
-    if value[8] != 3 or value[3] != 34676 or value[4] != 32845:
+    if slot[3] != 34676:
         raise Refused(3)
-    if value[5] != 1 or value[7] != 1 or value[11] != 1 or value[12] != 1:
+    heads = [h for h in HEADS if slot[4] == h.photometric and slot[8] == h.channels]
+    if not heads:
+        raise Refused(3)
+    head = heads[0]
+    if slot[5] != 1 or slot[7] != 1 or slot[11] != 1 or slot[12] != 1:
         raise Refused(3)
     if 17 in slots:
         raise Refused(3)
-    three(r, slots.get(2), 16)
-    three(r, slots.get(18), 2)
+    alike(r, slots.get(2), head.channels, 16)
+    alike(r, slots.get(18), head.channels, 2)
     tiled = 15 in slots
-    block_width = value[13] if tiled else width
-    block_height = value[14] if tiled else min(value[9], height)
+    block_width = slot[13] if tiled else width
+    block_height = slot[14] if tiled else min(slot[9], height)
     if block_width < 1 or block_width > 16384:
         raise Refused(3)
     if block_height < 1 or block_height > 16384:
@@ -166,7 +184,7 @@ def picture(r, page, limits):
     if not tiled and (13 in slots or 14 in slots or 16 in slots):
         raise Refused(2)
     across, down = len(range(0, width, block_width)), len(range(0, height, block_height))
-    segments, output = across * down, 6 * width * height
+    segments, output = across * down, head.bytes * width * height
     if segments > limits.segments:
         raise Refused(4)
     if output > limits.output:
@@ -179,12 +197,12 @@ def picture(r, page, limits):
             raise Refused(2)
         if array.count != segments:
             raise Refused(2)
-    return Format(width, height, tiled, block_width, block_height, across, segments, output, r.order, offsets, counts, n)
+    return Format(width, height, tiled, block_width, block_height, across, segments, output, r.order, offsets, counts, n, head)
 
 # What the program writes of a picture's sizes, of its format, and of a record.
 def sizes_of(f):
-    return ' %d x %d, %s %d x %d, %d across, %d segments, %d bytes' % (
-        f.width, f.height, 'tiles' if f.tiled else 'strips', f.block_width, f.block_height, f.across, f.segments, f.output)
+    return ' %d x %d, %s %d x %d, %d across, %d segments, %d bytes, %d channels' % (
+        f.width, f.height, 'tiles' if f.tiled else 'strips', f.block_width, f.block_height, f.across, f.segments, f.output, f.head.channels)
 
 def format_of(f):
     return '%s, %s, offsets %d, counts %d, entries %d' % (sizes_of(f), f.order, f.offsets.place, f.counts.place, f.entries)
@@ -249,6 +267,11 @@ TILES = ((256, 3, 1, 17), (257, 3, 1, 5), (258, 3, 3, [16] * 3), (259, 3, 1, 346
          (322, 3, 1, 16), (323, 3, 1, 16), (324, 4, 2, 0), (325, 4, 2, 0), (339, 3, 3, [2] * 3))
 NOTE = (305, 2, 1, 0)   # an entry that nobody knows
 
+def of_head(head):
+    """The entries in which a picture of one head differs from one of the other."""
+    n = head.channels
+    return (258, 3, n, [16] * n), (262, 3, 1, head.photometric), (277, 3, 1, n), (339, 3, n, [2] * n)
+
 LIMITS = Limits(input=4096, output=100000, dimension=20000, directories=4, tags=50, segments=1000)
 WIDE = dict(input=TOP, output=TOP, dimension=TOP, directories=TOP, tags=TOP, segments=TOP)
 
@@ -267,6 +290,12 @@ def strips(tag, *changes, big=False, **rest):
 
 def tiles(tag, *changes, big=False, **rest):
     return record(tag, tiff([(8, but(TILES, *changes), 0)], big), **rest)
+
+def mono_strips(tag, *changes, **rest):
+    return strips(tag, *of_head(MONO), *changes, **rest)
+
+def mono_tiles(tag, *changes, **rest):
+    return tiles(tag, *of_head(MONO), *changes, **rest)
 
 # ---- vectors ----
 
@@ -996,8 +1025,189 @@ def ranges():
         yield Range('eight-only-%d' % k, 512 * k, 512, 4096, bytes(i == k for i in range(8)))
         yield Range('eight-two-%d' % k, 512 * k, 513, 4096, bytes(1 - (i == k + 1) for i in range(8)))
 
-def drawn(draw, small):
-    """A file that is fine, its page to read, how many entries that has and where it is."""
+ORDERS = ('l', False), ('b', True)
+
+def pair(photometric, samples, n, kind=3):
+    """Slots 4 and 8, and slots 2 and 18 with so many right values each."""
+    return (262, kind, 1, photometric), (277, kind, 1, samples), (258, 3, n, [16] * n), (339, 3, n, [2] * n)
+
+def mono_heads():
+    # both kinds and orders, numbers of four bytes, tags in any order
+    for s, big in ORDERS:
+        yield mono_strips('strips-' + s, big=big)
+        yield mono_tiles('tiles-' + s, big=big)
+        fours = (258, 4, 1, 16), (262, 4, 1, 32844), (277, 4, 1, 1), (339, 4, 1, 2)
+        yield mono_strips('strips-four-' + s, *fours, big=big)
+        yield mono_tiles('tiles-four-' + s, *fours, big=big)
+        yield record('reversed-' + s, tiff([(8, but(STRIPS, *of_head(MONO))[::-1], 0)], big))
+        yield mono_strips('spares-' + s, *((tag, 3, 1, 1) for tag in (266, 274, 284, 317)), NOTE, big=big)
+        # slot 8 is 1 where it is absent, and slot 4 is 0
+        yield mono_strips('no-277-' + s, 277, big=big)
+        yield mono_tiles('no-277-t-' + s, 277, big=big)
+        yield mono_strips('no-262-' + s, 262, big=big)
+        yield mono_tiles('no-both-t-' + s, 262, 277, big=big)
+    yield strips('no-277-of-1', *pair(32845, 1, 1), 277)
+    yield strips('no-277-of-3', 277)
+    yield strips('no-277-mono-of-3', (262, 3, 1, 32844), 277)
+    # slots 4 and 8 together, with as many values in slots 2 and 18 as either head has channels
+    for photometric in (32844, 32845):
+        for samples in (0, 1, 2, 3, 4, 65535):
+            for n in (1, 2, 3) if samples == 2 else (1, 3):
+                yield strips('%d-%d-of-%d' % (photometric, samples, n), *pair(photometric, samples, n), big=(samples + n) % 2 == 1)
+    for photometric in (0, 1, 2, 3, 32803, 32843, 32846, 65535, 0x4C80):
+        yield mono_strips('photo-%d' % photometric, (262, 3, 1, photometric), big=photometric % 2 == 1)
+    for i, (photometric, samples) in enumerate(((65536 + 32844, 1), (32844 * 65536, 1), (32844, 65537), (32844, 65536), (32844, 256),
+                                                (32844, 2 ** 24 + 1), (32844, 2 ** 32 - 1), (2 ** 31 + 32844, 1))):
+        for s, big in ORDERS:
+            yield mono_strips('high-%d-%s' % (i, s), *pair(photometric, samples, 1, kind=4), big=big)
+    yield mono_strips('samples-swapped', (277, 3, 1, 256), big=True)
+    # what else step 2 tests
+    for name, change in (('width-0', (256, 3, 1, 0)), ('height-0', (257, 3, 1, 0)), ('wide', (256, 3, 1, 20001)), ('high', (257, 3, 1, 20001)),
+                         ('compression-1', (259, 3, 1, 1)), ('compression-77', (259, 3, 1, 34677)), ('no-259', 259)):
+        yield mono_strips(name, change)
+    # and step 3
+    for tag, n in ((266, 2), (274, 2), (284, 2), (317, 2), (317, 0), (338, 0)):
+        yield mono_strips('is-%d-%d' % (tag, n), (tag, 3, 1, n))
+    # malformed numbers come before a pair that is no head's, the pair before what follows, and slots 2 and 18 before the sides
+    for photometric, samples in ((32844, 3), (32844, 2), (32845, 1), (2, 1)):
+        own, t = pair(photometric, samples, samples), '%d-%d' % (photometric, samples)
+        yield strips(t + '-bad', *own, (338, 2, 1, 0))
+        yield strips(t + '-bad-rows', *own, (278, 3, 2, 2), big=True)
+        yield strips(t + '-far', *own, (258, 3, 3, 5000))
+        yield strips(t + '-far-form', *own, (339, 3, 3, 5000), big=True)
+        yield strips(t + '-side', *own, (322, 3, 1, 16))
+        yield strips(t + '-size', *own, output=1)
+        yield strips(t + '-array', *own, 273)
+        yield strips(t + '-units', *own, budget=138)
+        yield tiles(t + '-tiles', *own, (322, 3, 1, 15))
+    for tag in (262, 277, 256, 278, 338):
+        yield mono_strips('t2-%d' % tag, (tag, 2, 1, 1))
+        yield mono_strips('c2-%d' % tag, (tag, 3, 2, 1), big=True)
+
+def mono_values():
+    # slots 2 and 18: a single value, which stands in the field
+    for tag, right in ((258, 16), (339, 2)):
+        name = {258: 'bits', 339: 'form'}[tag]
+        for kind in (3, 4):
+            for s, big in ORDERS:
+                t, order = '%s-%d%s' % (name, kind, s), '>' if big else '<'
+                for n in (0, 1, right - 1, right, right + 1, 2 * right, 65535):
+                    if n != 1 or right != 2:
+                        yield mono_strips('%s-%d' % (t, n), (tag, kind, 1, [n]), big=big)
+                # right in one half, and read in the other order
+                own = struct.pack(order + 'H', right)
+                for way, field in (('rest-0', own + bytes(2)), ('rest-f', own + b'\xff\xff'), ('rest-1', own + b'\x01\x00'), ('rest-2', own + b'\x00\x01'),
+                                   ('half', bytes(2) + own), ('twice', own + own), ('swap', (own + bytes(2))[::-1]),
+                                   ('turn', own[::-1] + bytes(2))):
+                    yield mono_strips('%s-%s' % (t, way), (tag, kind, 1, field), big=big)
+                # a field that would be the place of a right value: in the file, outside it
+                yield mono_strips(t + '-place', (tag, kind, 1, (150, [right])), big=big)
+                yield mono_strips(t + '-far', (tag, kind, 1, 5000), big=big)
+                # other counts
+                for count in (0, 2, 3, 4):
+                    yield mono_strips('%s-c%d' % (t, count), (tag, kind, count, [right] * max(1, count)), big=big)
+                yield mono_strips(t + '-c0-far', (tag, kind, 0, 5000), big=big)
+                yield mono_strips(t + '-c3-far', (tag, kind, 3, 5000), big=big)
+        for count in (256, 257, 65537, 2 ** 24 + 1, 2 ** 32 - 1):
+            yield mono_strips('%s-c%d' % (name, count), (tag, 3, count, [right]), big=count % 2 == 0)
+        for kind in (0, 1, 2, 5, 6, 8, 9, 16, 256, 259, 768, 65535):
+            yield mono_strips('%s-t%d' % (name, kind), (tag, kind, 1, struct.pack('>HH', right, 0) if kind % 2 else right), big=kind % 2 == 1)
+        yield mono_strips('no-%d' % tag, tag)
+        yield mono_tiles('no-t-%d' % tag, tag, big=True)
+        # before the sides, the tags of the other kind, the sizes and the arrays of segments
+        for way, wrong in (('none', tag), ('value', (tag, 3, 1, right + 1)), ('count', (tag, 3, 3, [right] * 3))):
+            yield mono_strips('%s-%s-side' % (name, way), wrong, (322, 3, 1, 16))
+            yield mono_strips('%s-%s-size' % (name, way), wrong, output=1)
+            yield mono_strips('%s-%s-array' % (name, way), wrong, 279)
+            yield mono_tiles('%s-%s-tile' % (name, way), wrong, (323, 3, 1, 15))
+    yield mono_strips('no-both', 258, 339)
+    yield mono_strips('swapped', (258, 3, 1, 2), (339, 3, 1, 16))
+    yield mono_strips('both-far', (258, 4, 1, 5000), (339, 4, 1, 5000))
+
+def mono_sizes():
+    # the steps that follow
+    for rows, n in ((1, 5), (4, 2), (9, 1)):
+        yield mono_strips('rows-%d' % rows, (278, 3, 1, rows), *arrays(273, 279, n))
+    yield mono_strips('rows-0', (278, 3, 1, 0))
+    yield mono_strips('no-278', 278, *arrays(273, 279, 1), big=True)
+    yield mono_strips('side', (323, 3, 1, 16))
+    yield mono_strips('no-273', 273)
+    yield mono_strips('count-4', (279, 4, 4, 0))
+    yield mono_tiles('side-15', (322, 3, 1, 15))
+    yield mono_tiles('side-32', (322, 3, 1, 32), *arrays(324, 325, 1))
+    yield mono_tiles('wide-16384', (322, 3, 1, 16384), (323, 3, 1, 16384), *arrays(324, 325, 1))
+    yield mono_tiles('wide-16400', (322, 3, 1, 16400))
+    for s, big in ORDERS:
+        yield mono_strips('inline-' + s, (278, 3, 1, 3), (273, 3, 2, [273, 9]), (279, 3, 2, [279, 9]), big=big)
+    # the output: 3 x 5 has 30 bytes, 17 x 5 has 170
+    for n in (0, 29, 30, 31, 89, 90):
+        yield mono_strips('output-%d' % n, output=n)
+    for n in (169, 170, 171, 509, 510):
+        yield mono_tiles('output-t-%d' % n, output=n, big=True)
+    for n in (2, 3):
+        yield mono_strips('segments-%d' % n, segments=n)
+    yield mono_strips('output-no-273', 273, output=29)
+    yield mono_strips('output-side', (322, 3, 1, 16), output=29)
+    # numbers near 2^64: 2 x width x height just below it, just above, and above by so much that little is left of it
+    top = 2 ** 32 - 1
+    def huge(tag, width, height, make=mono_tiles, **limits):
+        return make(tag, (256, 4, 1, width), (257, 4, 1, height), *arrays(324, 325, 0), **{**WIDE, **limits})
+    yield huge('huge-below', top, 2 ** 31)
+    yield huge('huge-above', top, 2 ** 31 + 1)
+    yield huge('huge-below-turn', 2 ** 31, top)
+    yield huge('huge-above-turn', 2 ** 31 + 1, top)
+    yield huge('huge-halves', 2 ** 31, 2 ** 31)
+    yield huge('huge-square', top, top)
+    yield huge('huge-sixth', top, 715827882)
+    yield huge('huge-sixth+', top, 715827883)
+    yield huge('huge-sixth-col', top, 715827882, make=tiles)
+    yield huge('huge-sixth+-col', top, 715827883, make=tiles)
+    yield huge('huge-wraps', 3037000500, 3037000500)
+    yield huge('huge-wraps-max', 3037000500, 3037000500, output=2 ** 63)
+    yield huge('huge-max-output', top, 2 ** 31, output=2 * top * 2 ** 31)
+    yield huge('huge-max-less', top, 2 ** 31, output=2 * top * 2 ** 31 - 1)
+    # units
+    for units in (0, 10, 11, 12, 138, 139, 140):
+        yield mono_strips('units-%d' % units, budget=units)
+
+GREY = but(STRIPS, *of_head(MONO))
+
+def mono_pages():
+    # pages of both heads, and none has anything of another
+    for s, big in ORDERS:
+        for page in range(4):
+            file = tiff([(8, STRIPS, 160), (160, GREY, 300), (300, but(TILES, *of_head(MONO)), 450), (450, TILES, 0)], big)
+            yield record('mixed-%d-%s' % (page, s), file, page=page)
+        for name, first, second in (('277', STRIPS, but(GREY, 277)), ('262', GREY, but(STRIPS, 262)), ('258', GREY, but(STRIPS, 258)),
+                                    ('339', STRIPS, but(GREY, 339)), ('all', GREY, but(STRIPS, 258, 262, 277, 339)),
+                                    ('277-m', GREY, but(STRIPS, 277)), ('262-m', STRIPS, but(GREY, 262))):
+            yield record('own-%s-%s' % (name, s), tiff([(8, first, 160), (160, second, 0)], big), page=1)
+
+def mono_arrivals():
+    for s, big in ORDERS:
+        # the two fields across the edge of a block, which came and which did not
+        for name, at in (('bits', 476), ('bits-end', 474), ('form', 392), ('form-end', 390)):
+            file = tiff([(at, GREY, 0)], big)
+            for blocks in ([1, 1], [1, 0], [0, 1]):
+                yield record('%s-%s-%d%d' % (name, s, *blocks), file, blocks=blocks)
+        # fields that would be places in a block that did not come: the values are not right, and no byte is asked for
+        for tag, right in ((258, 16), (339, 2)):
+            for kind in (3, 4):
+                for way, count, place in (('in', 1, 520), ('edge', 1, 511), ('end', 1, 530), ('three', 3, 520)):
+                    own = but(GREY, (tag, kind, count, place))
+                    yield record('%d-%d-%s-%s' % (tag, kind, way, s), tiff([(8, own, 0)], big, size=530), blocks=[1, 0])
+        # right values, and nothing else came
+        yield record('rest-lost-' + s, tiff([(8, GREY, 0)], big, size=1500), blocks=[1, 0, 0])
+        yield record('first-lost-' + s, tiff([(8, GREY, 0)], big, size=1500), blocks=[0, 1, 1])
+    # what a colour picture still needs, and a monochrome one does not
+    bits = (258, 3, 3, (520, [16] * 3))
+    for way, entries in (('colour', but(STRIPS, bits)), ('grey', but(GREY, bits)), ('pair', but(STRIPS, bits, (277, 3, 1, 1)))):
+        yield record('lost-' + way, tiff([(8, entries, 0)], size=530), blocks=[1, 0])
+        yield record('came-' + way, tiff([(8, entries, 0)], size=530), blocks=[1, 1])
+        yield record('out-' + way, tiff([(8, entries, 0)], size=522))
+
+def drawn(draw, small, head=COLOUR, mixed=False):
+    """A file that is fine, its page to read, how many entries that has and where it is. Mixed, it has entries of the other head."""
     tiled, big = draw.below(2) == 1, draw.below(2) == 1
     width, height = draw.between(1, 70), draw.between(1, 70)
     kind = draw.of((3, 4))
@@ -1009,12 +1219,15 @@ def drawn(draw, small):
         rows = draw.of((1, 2, 5, 16, 70, 65535))
         n = len(range(0, height, min(rows, height)))
         entries = but(STRIPS, (278, kind, 1, rows), *arrays(273, 279, n, kind=draw.of((3, 4))))
-    entries = but(entries, (256, 3, 1, width), (257, kind, 1, height))
+    entries = but(entries, *of_head(head), (256, 3, 1, width), (257, kind, 1, height))
     for tag in (266, 274, 284, 317):
         if draw.below(3) == 0:
             entries = but(entries, (tag, draw.of((3, 4)), 1, 1))
     if draw.below(3) == 0:
-        entries = but(entries, (258, 4, 3, [16] * 3))
+        entries = but(entries, (258, 4, head.channels, [16] * head.channels))
+    if mixed:
+        other = of_head(COLOUR if head == MONO else MONO)
+        entries = but(entries, *(e for e in other if draw.below(2)))
     entries = list(entries) + [(draw.between(400, 60000), draw.below(14), draw.below(9), draw.below(99)) for _ in range(draw.of((0, 0, 1, 3)))]
     for i in range(len(entries)):
         j = draw.below(len(entries))
@@ -1040,10 +1253,10 @@ def damaged(draw, file, at, n):
         return file + draw.some(3)
     return patched(file, place, bytes([draw.of((file[place] ^ 1 << draw.below(8), draw.below(256), 0, 1, 255))]))
 
-def random(name, seed, how_many, small):
+def random(name, seed, how_many, small, mono=False):
     draw = Draw(seed)
     for i in range(how_many):
-        file, page, n, at = drawn(draw, small)
+        file, page, n, at = drawn(draw, small, *((MONO, i % 4 == 0) if mono else ()))
         kind = draw.below(6)
         limits = LIMITS
         if kind == 0:
@@ -1080,7 +1293,12 @@ def files():
         ('arrivals_three.bin', 'front', arrivals_of_three()),
         ('random_small.bin', 'front', random('small', 1, 200, True)),
         ('random_large.bin', 'front', random('large', 2, 70, False)),
-        ('ranges.bin', 'range', ranges()))]
+        ('ranges.bin', 'range', ranges()),
+        ('mono_heads.bin', 'front', mono_heads()),
+        ('mono_values.bin', 'front', mono_values()),
+        ('mono_sizes.bin', 'front', list(mono_sizes()) + list(mono_pages())),
+        ('mono_arrivals.bin', 'front', mono_arrivals()),
+        ('mono_random.bin', 'front', list(random('small', 3, 120, True, mono=True)) + list(random('large', 4, 40, False, mono=True))))]
 
 def packed(r):
     if isinstance(r, Range):
@@ -1089,6 +1307,10 @@ def packed(r):
     return record_of(r.tag, (r.page, *r.limits, r.budget), (), r.file, r.blocks)
 
 # Mistakes, each a change of one place of the model: what they are, the text and what stands there instead.
+PAIR, EACH = 'slot[4] == h.photometric and slot[8] == h.channels', 'for k in range(n):'
+BITS, FORM = '    alike(r, slots.get(2), head.channels, 16)\n', '    alike(r, slots.get(18), head.channels, 2)\n'
+FITS, FIELD = 'if size * array.count <= 4:', 'r.number(array.field[size * k:size * (k + 1)])'
+PLACE, OUTPUT = 'r.number(r.part(r.number(array.field) + size * k, size))', 'head.bytes * width * height\n'
 WRONG = (
     # arrival
     ('nothing said is nothing came', 'return True\n', 'return False\n'),
@@ -1281,7 +1503,7 @@ WRONG = (
     ('the profile is charged for each page', 'r.charge(128)', 'r.charge(128 * (page + 1))'),
     ('the profile is charged first', '    slots, n = directories(r, page, limits)\n    r.charge(128)\n',
      '    r.charge(128)\n    slots, n = directories(r, page, limits)\n'),
-    ('128 after the numbers', '    r.charge(128)\n    value = scalars(r, slots)\n', '    value = scalars(r, slots)\n    r.charge(128)\n'),
+    ('128 after the numbers', '    r.charge(128)\n    slot = scalars(r, slots)\n', '    slot = scalars(r, slots)\n    r.charge(128)\n'),
     ('any type is a number', '        if e.kind not in SIZES:\n            raise Refused(2)\n        if e.count',
      '        if e.kind in SIZES and False:\n            raise Refused(2)\n        e = e._replace(kind=e.kind if e.kind in SIZES else 3)\n        if e.count'),
     ('a type is 3', '        if e.kind not in SIZES:\n            raise Refused(2)\n        if e.count',
@@ -1332,103 +1554,101 @@ WRONG = (
      'if height < 1 or height > limits.dimension:\n        raise Refused(4)'),
     ('height 0 is 2', 'if height < 1 or height > limits.dimension:\n        raise Refused(3)',
      'if height < 1 or height > limits.dimension:\n        raise Refused(3 if height else 2)'),
-    ('width and height swapped', 'width, height = value[0], value[1]', 'height, width = value[0], value[1]'),
-    ('any samples', 'if value[8] != 3 or value[3]', 'if value[3]'),
-    ('samples of 4 too', 'if value[8] != 3 or value[3]', 'if value[8] not in (3, 4) or value[3]'),
-    ('samples of 1 too', 'if value[8] != 3 or value[3]', 'if value[8] not in (1, 3) or value[3]'),
-    ('any compression', 'value[3] != 34676 or value[4]', 'value[4]'),
-    ('compression 34677 too', 'value[3] != 34676 or value[4]', 'value[3] not in (34676, 34677) or value[4]'),
-    ('any photometric', ' or value[4] != 32845:', ':'),
-    ('photometric 32844 too', ' or value[4] != 32845:', ' or value[4] not in (32844, 32845):'),
-    ('the profile is 2', 'if value[8] != 3 or value[3] != 34676 or value[4] != 32845:\n        raise Refused(3)',
-     'if value[8] != 3 or value[3] != 34676 or value[4] != 32845:\n        raise Refused(2)'),
-    ('any fill order', 'if value[5] != 1 or value[7]', 'if value[7]'),
-    ('fill order 2 too', 'if value[5] != 1 or value[7]', 'if value[5] not in (1, 2) or value[7]'),
-    ('any orientation', 'value[7] != 1 or value[11]', 'value[11]'),
-    ('any planar', 'value[11] != 1 or value[12]', 'value[12]'),
-    ('any predictor', ' or value[12] != 1:', ':'),
-    ('predictor 0 too', ' or value[12] != 1:', ' or value[12] > 1:'),
-    ('orders and the rest are 2', 'or value[12] != 1:\n        raise Refused(3)', 'or value[12] != 1:\n        raise Refused(2)'),
+    ('width and height swapped', 'width, height = slot[0], slot[1]', 'height, width = slot[0], slot[1]'),
+    ('any samples: the head by slot 4 alone', PAIR, 'slot[4] == h.photometric'),
+    ('samples of 4 too', PAIR, 'slot[4] == h.photometric and slot[8] in (h.channels, 4)'),
+    ('samples of 1 too', PAIR, 'slot[4] == h.photometric and slot[8] in (h.channels, 1)'),
+    ('any compression', 'if slot[3] != 34676:', 'if False:'),
+    ('compression 34677 too', 'if slot[3] != 34676:', 'if slot[3] not in (34676, 34677):'),
+    ('any photometric: the head by slot 8 alone', PAIR, 'slot[8] == h.channels'),
+    ('photometric 32844 too', PAIR, 'slot[4] in (h.photometric, 32844) and slot[8] == h.channels'),
+    ('the profile is 2', 'if not heads:\n        raise Refused(3)', 'if not heads:\n        raise Refused(2)'),
+    ('another compression is 2', 'if slot[3] != 34676:\n        raise Refused(3)', 'if slot[3] != 34676:\n        raise Refused(2)'),
+    ('any fill order', 'if slot[5] != 1 or slot[7]', 'if slot[7]'),
+    ('fill order 2 too', 'if slot[5] != 1 or slot[7]', 'if slot[5] not in (1, 2) or slot[7]'),
+    ('any orientation', 'slot[7] != 1 or slot[11]', 'slot[11]'),
+    ('any planar', 'slot[11] != 1 or slot[12]', 'slot[12]'),
+    ('any predictor', ' or slot[12] != 1:', ':'),
+    ('predictor 0 too', ' or slot[12] != 1:', ' or slot[12] > 1:'),
+    ('orders and the rest are 2', 'or slot[12] != 1:\n        raise Refused(3)', 'or slot[12] != 1:\n        raise Refused(2)'),
     ('slot 17 is fine', 'if 17 in slots:', 'if False:'),
-    ('slot 17 of 0 is fine', 'if 17 in slots:', 'if value[17]:'),
+    ('slot 17 of 0 is fine', 'if 17 in slots:', 'if slot[17]:'),
     ('slot 17 is 2', 'if 17 in slots:\n        raise Refused(3)', 'if 17 in slots:\n        raise Refused(2)'),
-    ('slot 17 before the numbers', '    value = scalars(r, slots)\n',
-     '    if 17 in slots:\n        raise Refused(3)\n    value = scalars(r, slots)\n'),
-    ('width before the other numbers', '    value = scalars(r, slots)\n',
-     '    value = scalars(r, {0: slots[0]} if 0 in slots else {})\n    if value[0] < 1:\n        raise Refused(3)\n    value = scalars(r, slots)\n'),
-    ('the arrays before step 2', '    width, height = value[0], value[1]\n',
-     '    three(r, slots.get(2), 16)\n    width, height = value[0], value[1]\n'),
-    ('the arrays before the predictor', '    if value[5] != 1 or', '    three(r, slots.get(2), 16)\n    if value[5] != 1 or'),
-    ('the arrays before slot 17', '    if 17 in slots:', '    three(r, slots.get(2), 16)\n    if 17 in slots:'),
-    ('strip tags before step 2', '    width, height = value[0], value[1]\n',
-     '    if 15 not in slots and 13 in slots:\n        raise Refused(2)\n    width, height = value[0], value[1]\n'),
+    ('slot 17 before the numbers', '    slot = scalars(r, slots)\n',
+     '    if 17 in slots:\n        raise Refused(3)\n    slot = scalars(r, slots)\n'),
+    ('width before the other numbers', '    slot = scalars(r, slots)\n',
+     '    slot = scalars(r, {0: slots[0]} if 0 in slots else {})\n    if slot[0] < 1:\n        raise Refused(3)\n    slot = scalars(r, slots)\n'),
+    ('the arrays before step 2', '    width, height = slot[0], slot[1]\n',
+     '    alike(r, slots.get(2), slot[8], 16)\n    width, height = slot[0], slot[1]\n'),
+    ('the arrays before the predictor', '    if slot[5] != 1 or', '    alike(r, slots.get(2), head.channels, 16)\n    if slot[5] != 1 or'),
+    ('the arrays before slot 17', '    if 17 in slots:', '    alike(r, slots.get(2), head.channels, 16)\n    if 17 in slots:'),
+    ('strip tags before step 2', '    width, height = slot[0], slot[1]\n',
+     '    if 15 not in slots and 13 in slots:\n        raise Refused(2)\n    width, height = slot[0], slot[1]\n'),
     # three values
-    ('no array is fine', 'if e is None or e.kind not in SIZES or e.count != 3:',
-     'if e is None:\n        return\n    if e.kind not in SIZES or e.count != 3:'),
-    ('an array of another type is 2', 'if e is None or e.kind not in SIZES or e.count != 3:\n        raise Refused(3)',
-     'if e is None or e.kind not in SIZES or e.count != 3:\n        raise Refused(2)'),
-    ('no array is 2', 'if e is None or e.kind not in SIZES or e.count != 3:',
-     'if e is None:\n        raise Refused(2)\n    if e.kind not in SIZES or e.count != 3:'),
-    ('arrays of type 3 alone', 'if e is None or e.kind not in SIZES or e.count != 3:', 'if e is None or e.kind != 3 or e.count != 3:'),
-    ('an array of three or more', 'if e is None or e.kind not in SIZES or e.count != 3:',
-     'if e is None or e.kind not in SIZES or e.count < 3:'),
-    ('an array of one too', 'if e is None or e.kind not in SIZES or e.count != 3:',
-     'if e is None or e.kind not in SIZES or e.count not in (1, 3):'),
-    ('an array of up to three', 'if e is None or e.kind not in SIZES or e.count != 3:',
-     'if e is None or e.kind not in SIZES or e.count > 3:'),
-    ('an array of two in the field too', 'if e is None or e.kind not in SIZES or e.count != 3:',
+    ('no array is fine', 'if e is None or e.kind not in SIZES or e.count != n:',
+     'if e is None:\n        return\n    if e.kind not in SIZES or e.count != n:'),
+    ('an array of another type is 2', 'if e is None or e.kind not in SIZES or e.count != n:\n        raise Refused(3)',
+     'if e is None or e.kind not in SIZES or e.count != n:\n        raise Refused(2)'),
+    ('no array is 2', 'if e is None or e.kind not in SIZES or e.count != n:',
+     'if e is None:\n        raise Refused(2)\n    if e.kind not in SIZES or e.count != n:'),
+    ('arrays of type 3 alone', 'if e is None or e.kind not in SIZES or e.count != n:', 'if e is None or e.kind != 3 or e.count != n:'),
+    ('an array of three or more', 'if e is None or e.kind not in SIZES or e.count != n:',
+     'if e is None or e.kind not in SIZES or e.count < n:'),
+    ('an array of one too', 'if e is None or e.kind not in SIZES or e.count != n:',
+     'n = 1 if e is not None and e.count == 1 else n\n    if e is None or e.kind not in SIZES or e.count != n:'),
+    ('an array of up to three', 'if e is None or e.kind not in SIZES or e.count != n:',
+     'n = n if e is None else min(n, e.count)\n    if e is None or e.kind not in SIZES or e.count != n:'),
+    ('an array of two in the field too', 'if e is None or e.kind not in SIZES or e.count != n:',
      'if e is not None and e.kind == 3 and e.count == 2 and r.number(e.field[:2]) == r.number(e.field[2:]) == wanted:\n'
-     '        return\n    if e is None or e.kind not in SIZES or e.count != 3:'),
-    ('the first two of three stand in the field', 'r.number(r.part(base + size * k, size)) != wanted:',
-     'r.number(e.field[2 * k:2 * k + 2] if size == 2 and k < 2 else r.part(base + size * k, size)) != wanted:'),
-    ('three values side by side in two bytes', 'size, base = SIZES[e.kind], r.number(e.field)', 'size, base = 2, r.number(e.field)'),
-    ('three values in four bytes', 'size, base = SIZES[e.kind], r.number(e.field)', 'size, base = 4, r.number(e.field)'),
-    ('the base has two bytes', 'size, base = SIZES[e.kind], r.number(e.field)', 'size, base = SIZES[e.kind], r.number(e.field) % 65536'),
-    ('the base is counted from the directory', 'size, base = SIZES[e.kind], r.number(e.field)',
-     'size, base = SIZES[e.kind], r.number(e.field) + 8'),
-    ('two values are looked at', 'for k in range(3):', 'for k in range(2):'),
-    ('one value is looked at', 'for k in range(3):', 'for k in range(1):'),
-    ('the values backwards', 'for k in range(3):', 'for k in (2, 1, 0):'),
-    ('the first is not looked at', 'for k in range(3):', 'for k in (1, 2):'),
-    ('the middle is not looked at', 'for k in range(3):', 'for k in (0, 2):'),
-    ('all three inside first', '    for k in range(3):', '    r.part(base, 3 * size)\n    for k in range(3):'),
-    ('all three inside the file first', '    for k in range(3):',
-     '    if base + 3 * size > len(r.file):\n        raise Refused(1)\n    for k in range(3):'),
+     '        return\n    if e is None or e.kind not in SIZES or e.count != n:'),
+    ('the first two of three stand in the field', 'if value(r, e, k) != wanted:',
+     'if value(r, e._replace(count=2) if e.kind == 3 and k < 2 else e, k) != wanted:'),
+    ('three values side by side in two bytes', 'size = SIZES[array.kind]', 'size = 2'),
+    ('three values in four bytes', 'size = SIZES[array.kind]', 'size = 4'),
+    ('the base has two bytes', PLACE, PLACE.replace('field)', 'field) % 65536')),
+    ('the base is counted from the directory', PLACE, PLACE.replace('field)', 'field) + 8')),
+    ('two values are looked at', EACH, 'for k in range(min(n, 2)):'),
+    ('one value is looked at', EACH, 'for k in range(1):'),
+    ('the values backwards', EACH, 'for k in range(n)[::-1]:'),
+    ('the first is not looked at', EACH, 'for k in range(n > 1, n):'),
+    ('the middle is not looked at', EACH, 'for k in {0, n - 1}:'),
+    ('all three inside first', '    ' + EACH, '    if n > 1:\n        r.part(r.number(e.field), n * SIZES[e.kind])\n    ' + EACH),
+    ('all three inside the file first', '    ' + EACH,
+     '    if n > 1 and r.number(e.field) + n * SIZES[e.kind] > len(r.file):\n        raise Refused(1)\n    ' + EACH),
     ('a value is its low half', '!= wanted:\n            raise Refused(3)', '% 65536 != wanted:\n            raise Refused(3)'),
     ('unequal is 2', '!= wanted:\n            raise Refused(3)', '!= wanted:\n            raise Refused(2)'),
     ('values at most', '!= wanted:', '> wanted:'),
     ('values at least', '!= wanted:', '< wanted:'),
-    ('slot 18 before slot 2', '    three(r, slots.get(2), 16)\n    three(r, slots.get(18), 2)\n',
-     '    three(r, slots.get(18), 2)\n    three(r, slots.get(2), 16)\n'),
-    ('both types before both values', '    three(r, slots.get(2), 16)\n    three(r, slots.get(18), 2)\n',
-     '    if any(slots.get(s) is None or slots[s].kind not in SIZES or slots[s].count != 3 for s in (2, 18)):\n        raise Refused(3)\n'
-     '    three(r, slots.get(2), 16)\n    three(r, slots.get(18), 2)\n'),
-    ('slot 2 is not looked at', '    three(r, slots.get(2), 16)\n', ''),
-    ('slot 18 is not looked at', '    three(r, slots.get(18), 2)\n', ''),
-    ('slot 18 may be 16', 'three(r, slots.get(18), 2)', 'three(r, slots.get(18), 16)'),
+    ('slot 18 before slot 2', BITS + FORM, FORM + BITS),
+    ('both types before both values', BITS + FORM,
+     '    if any(slots.get(s) is None or slots[s].kind not in SIZES or slots[s].count != head.channels for s in (2, 18)):\n'
+     '        raise Refused(3)\n' + BITS + FORM),
+    ('slot 2 is not looked at', BITS, ''),
+    ('slot 18 is not looked at', FORM, ''),
+    ('slot 18 may be 16', FORM, FORM.replace(' 2)', ' 16)')),
     # sides
     ('tiled by slot 13', 'tiled = 15 in slots', 'tiled = 13 in slots'),
     ('tiled by slot 16', 'tiled = 15 in slots', 'tiled = 16 in slots'),
     ('tiled by slots 13 and 15', 'tiled = 15 in slots', 'tiled = 15 in slots and 13 in slots'),
     ('tiled without slot 6', 'tiled = 15 in slots', 'tiled = 15 in slots and 6 not in slots'),
     ('tiled by a fit slot 15', 'tiled = 15 in slots', 'tiled = 15 in slots and slots[15].kind in SIZES and slots[15].count > 0'),
-    ('slot 13 or the width', 'block_width = value[13] if tiled else width', 'block_width = value[13] or width'),
-    ('slot 13 in strips too', 'block_width = value[13] if tiled else width', 'block_width = value[13] if 13 in slots else width'),
-    ('the width in tiles without slot 13', 'block_width = value[13] if tiled else width',
-     'block_width = value[13] if tiled and 13 in slots else width'),
-    ('slot 14 in strips too', 'block_height = value[14] if tiled else', 'block_height = value[14] if 14 in slots else'),
-    ('the rows in tiles without slot 14', 'block_height = value[14] if tiled else',
-     'block_height = value[14] if tiled and 14 in slots else'),
-    ('sides swapped', 'block_height = value[14] if tiled else', 'block_height = value[13] if tiled else'),
-    ('rows above the height stay', 'min(value[9], height)', 'value[9]'),
-    ('the greater of rows and height', 'min(value[9], height)', 'max(value[9], height)'),
-    ('rows are the height', 'min(value[9], height)', 'height'),
-    ('tiles are no higher than slot 9', 'block_height = value[14] if tiled else min(value[9], height)',
-     'block_height = min(value[14] if tiled else height, value[9])'),
-    ('tiles are no higher than the picture', 'block_height = value[14] if tiled else min(value[9], height)',
-     'block_height = min(value[14] if tiled else value[9], height)'),
-    ('tiles are no wider than the picture', 'block_width = value[13] if tiled else width',
-     'block_width = min(value[13], width) if tiled else width'),
+    ('slot 13 or the width', 'block_width = slot[13] if tiled else width', 'block_width = slot[13] or width'),
+    ('slot 13 in strips too', 'block_width = slot[13] if tiled else width', 'block_width = slot[13] if 13 in slots else width'),
+    ('the width in tiles without slot 13', 'block_width = slot[13] if tiled else width',
+     'block_width = slot[13] if tiled and 13 in slots else width'),
+    ('slot 14 in strips too', 'block_height = slot[14] if tiled else', 'block_height = slot[14] if 14 in slots else'),
+    ('the rows in tiles without slot 14', 'block_height = slot[14] if tiled else',
+     'block_height = slot[14] if tiled and 14 in slots else'),
+    ('sides swapped', 'block_height = slot[14] if tiled else', 'block_height = slot[13] if tiled else'),
+    ('rows above the height stay', 'min(slot[9], height)', 'slot[9]'),
+    ('the greater of rows and height', 'min(slot[9], height)', 'max(slot[9], height)'),
+    ('rows are the height', 'min(slot[9], height)', 'height'),
+    ('tiles are no higher than slot 9', 'block_height = slot[14] if tiled else min(slot[9], height)',
+     'block_height = min(slot[14] if tiled else height, slot[9])'),
+    ('tiles are no higher than the picture', 'block_height = slot[14] if tiled else min(slot[9], height)',
+     'block_height = min(slot[14] if tiled else slot[9], height)'),
+    ('tiles are no wider than the picture', 'block_width = slot[13] if tiled else width',
+     'block_width = min(slot[13], width) if tiled else width'),
     ('blocks of 16384 are too wide', 'if block_width < 1 or block_width > 16384:', 'if block_width < 1 or block_width >= 16384:'),
     ('blocks of 16385 are fine', 'if block_width < 1 or block_width > 16384:', 'if block_width < 1 or block_width > 16385:'),
     ('any width of blocks', 'if block_width < 1 or block_width > 16384:', 'if block_width < 1:'),
@@ -1476,9 +1696,9 @@ WRONG = (
     ('strips with slot 16', 'if not tiled and (13 in slots or 14 in slots or 16 in slots):',
      'if not tiled and (13 in slots or 14 in slots):'),
     ('strips with slot 13 of 0', 'if not tiled and (13 in slots or 14 in slots or 16 in slots):',
-     'if not tiled and (value[13] or 14 in slots or 16 in slots):'),
+     'if not tiled and (slot[13] or 14 in slots or 16 in slots):'),
     ('strips with slot 14 of 0', 'if not tiled and (13 in slots or 14 in slots or 16 in slots):',
-     'if not tiled and (13 in slots or value[14] or 16 in slots):'),
+     'if not tiled and (13 in slots or slot[14] or 16 in slots):'),
     ('strips with tile tags are 3', 'if not tiled and (13 in slots or 14 in slots or 16 in slots):\n        raise Refused(2)',
      'if not tiled and (13 in slots or 14 in slots or 16 in slots):\n        raise Refused(3)'),
     # sizes
@@ -1490,10 +1710,10 @@ WRONG = (
     ('down is across', 'segments, output = across * down,', 'segments, output = across * across,'),
     ('segments are added', 'segments, output = across * down,', 'segments, output = across + down - 1,'),
     ('segments wrap at 2^32', 'segments, output = across * down,', 'segments, output = across * down % 2 ** 32,'),
-    ('output wraps at 2^64', '6 * width * height\n', '6 * width * height % 2 ** 64\n'),
-    ('output wraps at 2^32', '6 * width * height\n', '6 * width * height % 2 ** 32\n'),
-    ('four bytes a pixel', '6 * width * height\n', '4 * width * height\n'),
-    ('output of whole blocks', '6 * width * height\n', '6 * across * block_width * down * block_height\n'),
+    ('output wraps at 2^64', OUTPUT, OUTPUT.replace('\n', ' % 2 ** 64\n')),
+    ('output wraps at 2^32', OUTPUT, OUTPUT.replace('\n', ' % 2 ** 32\n')),
+    ('four bytes a pixel', OUTPUT, '4 * width * height\n'),
+    ('output of whole blocks', OUTPUT, 'head.bytes * across * block_width * down * block_height\n'),
     ('segments at the limit', 'if segments > limits.segments:', 'if segments >= limits.segments:'),
     ('segments one above', 'if segments > limits.segments:', 'if segments > limits.segments + 1:'),
     ('segments are not limited', 'if segments > limits.segments:', 'if False:'),
@@ -1505,13 +1725,13 @@ WRONG = (
     ('output is not limited', 'if output > limits.output:', 'if False:'),
     ('output is 6', 'if output > limits.output:\n        raise Refused(4)', 'if output > limits.output:\n        raise Refused(6)'),
     ('output before the sides', '    if block_width < 1 or block_width > 16384:',
-     '    if 6 * width * height > limits.output:\n        raise Refused(4)\n    if block_width < 1 or block_width > 16384:'),
+     '    if head.bytes * width * height > limits.output:\n        raise Refused(4)\n    if block_width < 1 or block_width > 16384:'),
     ('output before the tags of tiles', '    if tiled and (6 in slots or 10 in slots):',
-     '    if 6 * width * height > limits.output:\n        raise Refused(4)\n    if tiled and (6 in slots or 10 in slots):'),
+     '    if head.bytes * width * height > limits.output:\n        raise Refused(4)\n    if tiled and (6 in slots or 10 in slots):'),
     ('output before the tags of strips', '    if not tiled and (13 in slots',
-     '    if 6 * width * height > limits.output:\n        raise Refused(4)\n    if not tiled and (13 in slots'),
-    ('output before the arrays of three', '    three(r, slots.get(2), 16)\n',
-     '    if 6 * width * height > limits.output:\n        raise Refused(4)\n    three(r, slots.get(2), 16)\n'),
+     '    if head.bytes * width * height > limits.output:\n        raise Refused(4)\n    if not tiled and (13 in slots'),
+    ('output before the arrays of three', BITS,
+     '    if head.bytes * width * height > limits.output:\n        raise Refused(4)\n' + BITS),
     # arrays
     ('the arrays before the sizes', '    if segments > limits.segments:',
      '    if any(s not in slots for s in ((15, 16) if tiled else (6, 10))):\n        raise Refused(2)\n    if segments > limits.segments:'),
@@ -1540,8 +1760,95 @@ WRONG = (
      '        if array.kind == 3 and array.count == 2 and r.number(array.field) < len(r.file):\n'
      '            r.part(r.number(array.field), 1)\n        if array.count != segments:\n'),
     ('arrays without values', 'if array.count != segments:', 'if array.count not in (0, segments):'),
-    ('offsets and counts swapped', 'r.order, offsets, counts, n)', 'r.order, counts, offsets, n)'),
+    ('offsets and counts swapped', 'r.order, offsets, counts, n, head)', 'r.order, counts, offsets, n, head)'),
     ('tiles by the strips\' slots', "(slots.get(15), slots.get(16)) if tiled else", "(slots.get(6), slots.get(10)) if tiled else"),
     ('a refusal gives the units back', "return '%-16s%s, left %d' % (record.tag, said, r.left)",
      "return '%-16s%s, left %d' % (record.tag, said, record.budget if said.startswith(' refused') else r.left)"),
+    # heads
+    ('the head by slot 4 or by slot 8', PAIR, PAIR.replace('and', 'or')),
+    ('the head by slot 4, and either number of samples', PAIR, 'slot[4] == h.photometric and slot[8] in (1, 3)'),
+    ('the head by slot 8, and either photometric', PAIR, 'slot[8] == h.channels and slot[4] in (32844, 32845)'),
+    ('colour with three samples, mono with any', PAIR, 'slot[4] == h.photometric and (h == MONO or slot[8] == 3)'),
+    ('mono with one sample, colour with any', PAIR, 'slot[4] == h.photometric and (h == COLOUR or slot[8] == 1)'),
+    ('mono with no samples too', PAIR, PAIR.replace('slot[8]', 'max(1, slot[8])')),
+    ('mono with two samples too', PAIR, 'slot[4] == h.photometric and slot[8] in (h.channels, 2)'),
+    ('up to as many samples', PAIR, PAIR.replace('slot[8] ==', 'slot[8] <=')),
+    ('at least as many samples', PAIR, PAIR.replace('slot[8] ==', 'slot[8] >=')),
+    ('samples of two bytes', PAIR, PAIR.replace('slot[8]', 'slot[8] % 65536')),
+    ('samples of a byte', PAIR, PAIR.replace('slot[8]', 'slot[8] % 256')),
+    ('photometrics of two bytes', PAIR, PAIR.replace('slot[4]', 'slot[4] % 65536')),
+    ('photometrics of 31 bits', PAIR, PAIR.replace('slot[4]', 'slot[4] % 2 ** 31')),
+    ('mono by 0 too', PAIR, 'slot[4] in (h.photometric, 0) and slot[8] == h.channels'),
+    ('mono by 1 too', PAIR, 'slot[4] in (h.photometric, 1) and slot[8] == h.channels'),
+    ('mono by 32845 too', PAIR, 'slot[4] in (h.photometric, 32845) and slot[8] == h.channels'),
+    ('mono by 32843', 'Head(32844, 1,', 'Head(32843, 1,'),
+    ('mono with two samples', 'Head(32844, 1,', 'Head(32844, 2,'),
+    ('no mono', 'for h in HEADS if', 'for h in HEADS[:1] if'),
+    ('no colour', 'for h in HEADS if', 'for h in HEADS[1:] if'),
+    ('all is colour', 'head = heads[0]', 'head = COLOUR'),
+    ('all is mono', 'head = heads[0]', 'head = MONO'),
+    ('mono is 3', 'head = heads[0]\n', 'head = heads[0]\n    if head == MONO:\n        raise Refused(3)\n'),
+    ('mono must say its samples', 'head = heads[0]\n', 'head = heads[0]\n    if 8 not in slots:\n        raise Refused(3)\n'),
+    ('no photometric is LogL', ' 3: 1, 4: 0,', ' 3: 1, 4: 32844,'),
+    ('no samples is none', ' 5: 1, 7: 1, 8: 1,', ' 5: 1, 7: 1, 8: 0,'),
+    ('any compression of mono', 'if slot[3] != 34676:', 'if slot[3] != 34676 and slot[4] != 32844:'),
+    ('the head before the other numbers', '    slot = scalars(r, slots)\n',
+     '    slot = scalars(r, {s: slots[s] for s in (4, 8) if s in slots})\n'
+     '    if all((slot[4], slot[8]) != (h.photometric, h.channels) for h in HEADS):\n        raise Refused(3)\n'
+     '    slot = scalars(r, slots)\n'),
+    ('the head after slots 2 and 18', '    if not heads:\n        raise Refused(3)\n    head = heads[0]\n',
+     '    head = heads[0] if heads else COLOUR\n    if not heads:\n' + BITS.replace('  al', '      al') + '        raise Refused(3)\n'),
+    ('a page has the head of the first', '        slots, n, at = directory(r, at, limits)\n',
+     '        slots, n, at = directory(r, at, limits)\n        first = slots if turn == 0 else first\n'
+     '        slots.update({s: first[s] for s in (4, 8) if s in first})\n'),
+    # a single value
+    ('mono wants three values', 'e.count != n:', 'e.count != 3:'),
+    ('mono takes three values too', 'e.count != n:', 'e.count not in (n, 3):'),
+    ('mono takes two values too', 'e.count != n:', 'e.count not in (n, 2 if n == 1 else n):'),
+    ('mono takes no value too', 'e.count != n:', 'e.count not in (n, 0 if n == 1 else n):'),
+    ('mono takes any count', 'e.count != n:', '(n > 1 and e.count != n):'),
+    ('mono takes one value or more', 'e.count != n:', '(e.count < 1 if n == 1 else e.count != n):'),
+    ('mono takes none where the entry is absent', '    if e is None or e.kind', '    if e is None and n == 1:\n        return\n    if e is None or e.kind'),
+    ('the value of mono is not looked at', EACH, 'for k in range(n if n > 1 else 0):'),
+    ('three values of mono are looked at', EACH, 'for k in range(3):'),
+    ('a single value is a short', 'e.kind not in SIZES or e.count != n:', 'e.kind not in ((3,) if n == 1 else SIZES) or e.count != n:'),
+    ('a single value is a long', 'e.kind not in SIZES or e.count != n:', 'e.kind not in ((4,) if n == 1 else SIZES) or e.count != n:'),
+    ('a single value has any type', 'e.kind not in SIZES or e.count != n:',
+     'e.kind not in SIZES and n > 1 or e.count != n:\n        raise Refused(3)\n    e = e._replace(kind=e.kind if e.kind in SIZES else 4)\n    if False:'),
+    ('a single value stands at the place that the field holds', FITS, 'if False:'),
+    ('a single short stands at the place that the field holds', FITS, 'if size * array.count == 4:'),
+    ('a single long stands at the place that the field holds', FITS, 'if size * array.count < 4:'),
+    ('three shorts stand in the field', FITS, 'if size * array.count <= 6:'),
+    ('a single value is the whole field', FIELD, 'r.number(array.field)'),
+    ('a single value has two bytes', FIELD, 'r.number(array.field[:2])'),
+    ('a single value is the last bytes', FIELD, 'r.number(array.field[-size:])'),
+    ('a single value is the last bytes if big', FIELD, "r.number(array.field[-size:] if r.order == 'big' else array.field[:size])"),
+    ('a single value is little-endian', FIELD, "int.from_bytes(array.field[:size], 'little')"),
+    ('a single value is big-endian', FIELD, "int.from_bytes(array.field[:size], 'big')"),
+    ('a single value has a byte', FIELD, "r.number(array.field[:size]) % 256"),
+    ('the field of a single value must be a place inside', FITS, FITS + '\n        r.part(r.number(array.field), 0)'),
+    ('the field of a single value is lost with the place that it would be', FITS,
+     FITS + '\n        if r.number(array.field) < len(r.file):\n            r.part(r.number(array.field), 1)'),
+    ('a wrong single value is looked for at the place', FIELD, 'r.number(array.field[:size]) if r.number(array.field[:size]) in (2, 16) else '
+     + PLACE),
+    ('a wrong single value is 2', '!= wanted:\n            raise Refused(3)', '!= wanted:\n            raise Refused(3 if n > 1 else 2)'),
+    ('slot 2 of mono is not looked at', BITS, '    if head == COLOUR:\n    ' + BITS),
+    ('slot 18 of mono is not looked at', FORM, '    if head == COLOUR:\n    ' + FORM),
+    ('slot 2 of mono is 8', BITS, BITS.replace('16', '16 if head == COLOUR else 8')),
+    ('slot 18 of mono is 1', FORM, FORM.replace(' 2)', ' 2 if head == COLOUR else 1)')),
+    ('slots 2 and 18 of mono after the sides', BITS + FORM + '    tiled = 15 in slots\n',
+     '    tiled = 15 in slots\n    if head == MONO and not tiled and (13 in slots or 14 in slots):\n        raise Refused(2)\n' + BITS + FORM),
+    ('slots 2 and 18 of mono after the sizes', BITS,
+     '    if head == MONO and head.bytes * width * height > limits.output:\n        raise Refused(4)\n' + BITS),
+    # bytes and channels
+    ('six bytes a pixel of mono', 'Head(32844, 1, 2, 2)', 'Head(32844, 1, 2, 6)'),
+    ('four bytes a pixel of mono', 'Head(32844, 1, 2, 2)', 'Head(32844, 1, 2, 4)'),
+    ('one byte a pixel of mono', 'Head(32844, 1, 2, 2)', 'Head(32844, 1, 2, 1)'),
+    ('six bytes a pixel of either head', OUTPUT, '6 * width * height\n'),
+    ('two bytes a pixel of either head', OUTPUT, '2 * width * height\n'),
+    ('mono is limited by six bytes a pixel', 'if output > limits.output:', 'if 6 * width * height > limits.output:'),
+    ('either head may be limited by two bytes a pixel', 'if output > limits.output:', 'if 2 * width * height > limits.output:'),
+    ('mono above 2^64 by six bytes a pixel', 'if output > limits.output:', 'if output > limits.output or 6 * width * height > 2 ** 64 - 1:'),
+    ('three channels of mono', 'f.output, f.head.channels)', 'f.output, 3)'),
+    ('two channels of mono', 'f.output, f.head.channels)', 'f.output, max(2, f.head.channels))'),
 )

@@ -16,11 +16,10 @@ import zlib
 
 sys.dont_write_bytecode = True  # no folder of compiled modules beside the scripts
 from common import hold_or_write
-from front import STRIPS, Limits, Reading, but, picture
+from front import STRIPS, Limits, Reading, but, picture, value
 from leaf import literal, run
 from libtiff import CAMERA, file_of, vouched
 from patchy import all_but, blocks_in, patchy, turned
-from strict import value
 
 LIMITS = Limits(input=65536, output=1843200, dimension=640, directories=1, tags=20, segments=60)
 UNITS, LOST, STRIP = 10000000, 44, 31

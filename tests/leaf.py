@@ -10,6 +10,7 @@ import struct
 import zlib
 
 from common import FILL, TOP, Draw, record_of
+from front import COLOUR, MONO, head_of
 
 # numbers are the call's own, in the order of its parameters; out and scratch the lengths of what is lent.
 Record = collections.namedtuple('Record', 'tag numbers data out scratch')
@@ -63,22 +64,24 @@ def decoded(data, start, count, stride, needed, out):
 def uv(x):
     return (2 * x + 1) * 8192 // 205
 
-def pixel(high, low, u, v):
-    return list(struct.pack('<HHH', high * 256 + low, uv(u), uv(v)))
+# Pixels (rule 6.2): L and, for the colour head, u and v, each a 16-bit number.
+def pixel(high, low, *colour):
+    return [byte for n in (high * 256 + low, *map(uv, colour)) for byte in struct.pack('<H', n)]
 
-# Pixels (rules 6.1, 6.2 and 6.8): the four planes of a row become pixels of three 16-bit numbers.
-def pixels(planes, w, rows, out):
-    if 6 * w * rows > TOP:
+# Pixels (rules 6.1, 6.2 and 6.8): the planes of a row become pixels.
+def pixels(head, planes, w, rows, out):
+    p, b = head.planes, head.bytes
+    if b * w * rows > TOP:
         return 4, out
-    if len(planes) < 4 * w * rows:
+    if len(planes) < p * w * rows:
         return 1, out
-    if len(out) < 6 * w * rows:
+    if len(out) < b * w * rows:
         return 6, out
     whole = []
     for y in range(rows if w > 0 else 0):
-        row = planes[4 * w * y:4 * w * (y + 1)]
+        row = planes[p * w * y:p * w * (y + 1)]
         for x in range(w):
-            whole += pixel(row[x], row[w + x], row[2 * w + x], row[3 * w + x])
+            whole += pixel(*row[x::w])
     return 0, whole + out[len(whole):]
 
 # Predictor 64 (rules 9.1 to 9.3): a predicted sample is the whole sum of its channel since the last reset.
@@ -138,7 +141,8 @@ def line(kind, r):
         answer, after = decoded(data, *r.numbers, out)
         said = ' %d %d%s' % (packets(data, *r.numbers), answer, shown(after))
     elif kind == 'planes':
-        answer, after = pixels(data, *r.numbers, out)
+        w, rows, which = r.numbers
+        answer, after = pixels(head_of(which), data, w, rows, out)
         said = ' %d%s' % (answer, shown(after))
     elif kind == 'uv':
         said = ''.join(' %d' % uv(x) for x in data)
@@ -205,7 +209,7 @@ def packets_refused():
             else:
                 yield Record('left-%03d' % n, (0, len(packet), 16384, need + 1), packet, need + 1, 0)
 
-CASE1 = bytes.fromhex('8007800180028003')
+CASE1, CASE14, CASE15 = map(bytes.fromhex, ('8007800180028003', '80078001', '80008000'))
 
 def packets_edges():
     def plain(tag, data, stride, needed, out=None, start=0, count=None):
@@ -399,6 +403,12 @@ def packets_edges():
         for stride in range(1, 7):
             yield plain('cut-%s-s%d' % (''.join(map(str, lengths)), stride), made, stride, 5)
 
+    # marked cases 14 and 15, and where the bytes of the other head are needed
+    yield plain('mark14', CASE14, 2, 4)
+    yield plain('mark15', CASE15, 2, 4)
+    yield plain('mark14-of-8', CASE14, 2, 8)
+    yield plain('mark1-of-4', CASE1, 2, 4)
+
 # Sequences that are right by the way they are made: packets that fill what is needed and stop at each boundary.
 def good(draw, needed, stride, lengths=(1, 1, 2, 3, 4, 9, 40, 127, 128, 129)):
     made, left = b'', needed
@@ -455,8 +465,8 @@ def packets_random():
 
 def planes():
     draw = Draw(2)
-    def plain(tag, data, w, rows, out):
-        return Record(tag, (w, rows), bytes(data), out, 0)
+    def plain(tag, data, w, rows, out, which=0):
+        return Record(tag, (w, rows, which), bytes(data), out, 0)
 
     yield plain('mark1', bytes.fromhex('0707010102020303'), 2, 1, 12)
     yield plain('mark8', bytes([1, 2, 3, 4, 5, 6, 0, 1, 255, 255, 1, 0]), 3, 1, 18)
@@ -501,6 +511,57 @@ def planes():
         u = bytes(range(8 * k, 8 * k + 8))
         v = bytes(255 - x for x in u)
         yield plain('uv-%03d' % (8 * k), counted(8, k) + counted(8, k + 1) + u + v, 8, 1, 48)
+
+def mono_planes():
+    draw = Draw(6)
+    def plain(tag, data, w, rows, out, which=1):
+        return Record('m-' + tag, (w, rows, which), bytes(data), out, 0)
+
+    yield plain('mark14', bytes.fromhex('07070101'), 2, 1, 4)
+    yield plain('mark15', bytes(4), 2, 1, 4)
+    yield plain('w0-rows0', b'', 0, 0, 0)
+    yield plain('w0-rows0-out', b'abcd', 0, 0, 6)
+    yield plain('w0-rows3', b'', 0, 3, 4)
+    yield plain('w5-rows0', b'', 5, 0, 4)
+    yield plain('w-top-rows0', b'', TOP, 0, 4)
+    yield plain('w0-rows-top', b'', 0, TOP, 4)
+    yield plain('w1-rows1', [0x12, 0x34], 1, 1, 2)
+    yield plain('w1-rows1-long', [0x12, 0x34, 0x56, 0x78], 1, 1, 6)
+    yield plain('w1-rows4', draw.some(8), 1, 4, 8)
+    yield plain('w2-rows3', draw.some(12), 2, 3, 12)
+    yield plain('w3-rows2', draw.some(12), 3, 2, 12)
+    yield plain('w5-rows2', counted(20, 1), 5, 2, 20)
+    yield plain('w7-rows11', draw.some(154), 7, 11, 154)
+    yield plain('w341-rows1', draw.some(682), 341, 1, 682)
+    yield plain('w1-rows341', draw.some(682), 1, 341, 684)
+
+    # lengths: exact, one short, longer, of each and of both; and those of colour
+    for more in (-1, 0, 1, 12):
+        for room in (-1, 0, 1, 24):
+            yield plain('in%+d-out%+d' % (more, room), counted(12 + more, 9), 2, 3, 12 + room)
+    yield plain('in-none', b'', 2, 3, 12)
+    yield plain('out-none', counted(12, 3), 2, 3, 0)
+    yield plain('none', b'', 2, 3, 0)
+
+    # sizes whose pixels are just below and above 2^64-1 bytes, and products that come out small where they wrap
+    half, sixth = TOP // 2, TOP // 6
+    for tag, w, rows in (
+            ('w-top', TOP, 1), ('rows-top', 1, TOP), ('both-top', TOP, TOP), ('w-half', half, 1), ('w-half+1', half + 1, 1),
+            ('w-half+2', half + 2, 1), ('rows-half', 1, half), ('rows-half+1', 1, half + 1), ('w-quarter', half // 2, 2), ('w-quarter+1', half // 2 + 1, 2),
+            ('w32-rows32', 2 ** 32, 2 ** 32), ('w32-rows31', 2 ** 32, 2 ** 31), ('w31-rows31', 2 ** 31, 2 ** 31), ('w63-rows2', 2 ** 63, 2),
+            ('w2-rows63', 2, 2 ** 63), ('w62-rows1', 2 ** 62, 1), ('w62-rows2', 2 ** 62, 2), ('w-sixth', sixth, 1), ('w-sixth+1', sixth + 1, 1),
+            ('wraps-in-all', 2 ** 62 + 1, 4)):
+        yield plain(tag, counted(48, 5), w, rows, 48)
+
+    # every high and every low byte of L
+    for k in range(16):
+        high = bytes(range(16 * k, 16 * k + 16))
+        yield plain('L-%03d' % (16 * k), high + bytes(255 - x for x in high), 16, 1, 32)
+        yield plain('L-%03d-rows' % (16 * k), bytes(byte for x in high for byte in (x, x ^ 0x5A)), 1, 16, 32)
+
+    # what else the third number can be is colour
+    for which in (2, 3, 256, 2 ** 32 + 1, TOP):
+        yield plain('of-%d' % (which % 1000), counted(8, which % 7), 2, 1, 12, which)
 
 def every_uv():
     for k in range(16):
@@ -667,7 +728,7 @@ def files():
         ('packets_refused.bin', 'packets', packets_refused()),
         ('packets_edges.bin', 'packets', packets_edges()),
         ('packets_random.bin', 'packets', packets_random()),
-        ('planes.bin', 'planes', planes()),
+        ('planes.bin', 'planes', list(planes()) + list(mono_planes())),
         ('uv.bin', 'uv', every_uv()),
         ('predictor64.bin', 'predictor64', predictor64_records()),
         ('predictor3.bin', 'predictor3', predictor3_records()))]
@@ -675,7 +736,8 @@ def files():
 def packed(r):
     return record_of(r.tag, (tuple(r.numbers) + (0,) * 5)[:5], (r.out, r.scratch), r.data)
 
-# Mistakes, each a change of one place of the model: what they are, the text and what stands there instead.
+# Mistakes, each a change of one place of the model: what they are, the text and what stands there instead. Some need COLOUR and MONO.
+MANY, ROW, SIDES = 'if b * w * rows > TOP:', 'pixel(*row[x::w])', 'p, b = head.planes, head.bytes'
 WRONG = (
     ('control 128 is a literal', 'if control < 128 else (control - 126, 1)', 'if control <= 128 else (control - 126, 1)'),
     ('control 127 is a run', '(control, control) if control < 128', '(control, control) if control < 127'),
@@ -746,22 +808,50 @@ WRONG = (
     ('uv without its half step', '(2 * x + 1) * 8192', '(2 * x) * 8192'),
     ('uv over 410 of whole steps', '(2 * x + 1) * 8192 // 205', 'x * 16384 // 205 + 39'),
     ('L is swapped', 'high * 256 + low', 'low * 256 + high'),
-    ('u and v are swapped', 'uv(u), uv(v)', 'uv(v), uv(u)'),
-    ('pixels are big-endian', "'<HHH'", "'>HHH'"),
-    ('planes of the whole segment', 'pixel(row[x], row[w + x], row[2 * w + x], row[3 * w + x])',
-     'pixel(*(planes[(k * rows + y) * w + x] for k in range(4)))'),
-    ('pixels side by side', 'pixel(row[x], row[w + x], row[2 * w + x], row[3 * w + x])', 'pixel(*row[4 * x:4 * x + 4])'),
-    ('pixels wrap', 'if 6 * w * rows > TOP:', 'if 6 * w > TOP:'),
-    ('pixels wrap by the width', 'if 6 * w * rows > TOP:', 'if 6 * (w % 2 ** 61) * rows > TOP:'),
-    ('4 where the planes wrap', 'if 6 * w * rows > TOP:', 'if 4 * w * rows > TOP:'),
-    ('4 without rows', 'if 6 * w * rows > TOP:', 'if 6 * w * max(1, rows) > TOP:'),
-    ('planes before the limit', '    if 6 * w * rows > TOP:', '    if len(planes) < 4 * w * rows:\n        return 1, out\n    if 6 * w * rows > TOP:'),
-    ('out before the planes', '    if len(planes) < 4 * w * rows:\n',
-     '    if len(out) < 6 * w * rows:\n        return 6, out\n    if len(planes) < 4 * w * rows:\n'),
-    ('planes must be exact', 'if len(planes) < 4 * w * rows:', 'if len(planes) != 4 * w * rows:'),
-    ('pixels: out must be exact', 'if len(out) < 6 * w * rows:', 'if len(out) != 6 * w * rows:'),
-    ('no width is 2', 'if 6 * w * rows > TOP:', 'if w == 0:\n        return 2, out\n    if 6 * w * rows > TOP:'),
-    ('no rows is 2', 'if 6 * w * rows > TOP:', 'if rows == 0:\n        return 2, out\n    if 6 * w * rows > TOP:'),
+    ('u and v are swapped', '*map(uv, colour)', '*map(uv, colour[::-1])'),
+    ('pixels are big-endian', "'<H'", "'>H'"),
+    ('planes of the whole segment', ROW, 'pixel(*planes[y * w + x::rows * w][:p])'),
+    ('pixels side by side', ROW, 'pixel(*row[p * x:p * x + p])'),
+    ('pixels wrap', MANY, 'if b * w > TOP:'),
+    ('pixels wrap by the width', MANY, 'if b * (w % 2 ** 61) * rows > TOP:'),
+    ('4 where the planes wrap', MANY, 'if p * w * rows > TOP:'),
+    ('4 without rows', MANY, 'if b * w * max(1, rows) > TOP:'),
+    ('planes before the limit', '    ' + MANY, '    if len(planes) < p * w * rows:\n        return 1, out\n    ' + MANY),
+    ('out before the planes', '    if len(planes) < p * w * rows:\n',
+     '    if len(out) < b * w * rows:\n        return 6, out\n    if len(planes) < p * w * rows:\n'),
+    ('planes must be exact', 'if len(planes) < p * w * rows:', 'if len(planes) != p * w * rows:'),
+    ('pixels: out must be exact', 'if len(out) < b * w * rows:', 'if len(out) != b * w * rows:'),
+    ('no width is 2', MANY, 'if w == 0:\n        return 2, out\n    ' + MANY),
+    ('no rows is 2', MANY, 'if rows == 0:\n        return 2, out\n    ' + MANY),
+    ('all planes are of colour', SIDES, 'p, b = COLOUR.planes, COLOUR.bytes'),
+    ('all planes are mono', SIDES, 'head = MONO\n    ' + SIDES),
+    ('mono has four planes', SIDES, 'p, b = 4, head.bytes'),
+    ('mono has three planes', SIDES, 'p, b = max(3, head.planes), head.bytes'),
+    ('mono has six bytes', SIDES, 'p, b = head.planes, 6'),
+    ('mono has four bytes', SIDES, 'p, b = head.planes, max(4, head.bytes)'),
+    ('mono: 4 by six bytes a pixel', MANY, 'if 6 * w * rows > TOP:'),
+    ('mono: 4 above 2^63', MANY, 'if b * w * rows > (TOP if head == COLOUR else 2 ** 63):'),
+    ('mono: 2^64 is taken', MANY, 'if b * w * rows > TOP + 1:'),
+    ('mono: pixels wrap', MANY, 'if (b * w * rows > TOP if head == COLOUR else b * w * rows % 2 ** 64 > TOP):'),
+    ('mono: planes of colour are asked for', 'if len(planes) < p * w * rows:', 'if len(planes) < 4 * w * rows:'),
+    ('mono: planes may lack a byte', 'if len(planes) < p * w * rows:',
+     'planes = planes + [0] * (head == MONO)\n    if len(planes) < p * w * rows:'),
+    ('mono: planes must be exact', 'if len(planes) < p * w * rows:', 'if len(planes) < p * w * rows or head == MONO and len(planes) > p * w * rows:'),
+    ('mono: out must be exact', 'if len(out) < b * w * rows:', 'if len(out) < b * w * rows or head == MONO and len(out) > b * w * rows:'),
+    ('mono: out before the planes', '    if len(planes) < p * w * rows:\n',
+     '    if head == MONO and len(out) < b * w * rows:\n        return 6, out\n    if len(planes) < p * w * rows:\n'),
+    ('mono: out of colour is asked for', 'if len(out) < b * w * rows:', 'if len(out) < 6 * w * rows:'),
+    ('mono: L is swapped', ROW, 'pixel(*row[x::w] if head == COLOUR else row[x::w][::-1])'),
+    ('mono: the low byte alone', ROW, 'pixel(*row[x::w] if head == COLOUR else (0, row[w + x]))'),
+    ('mono: the high byte alone', ROW, 'pixel(*row[x::w] if head == COLOUR else (row[x], 0))'),
+    ('mono: the high byte twice', ROW, 'pixel(*row[x::w] if head == COLOUR else (row[x], row[x]))'),
+    ('mono: no sign', ROW, 'pixel(*row[x::w] if head == COLOUR else (row[x] & 127, row[w + x]))'),
+    ('mono: pixels side by side', ROW, 'pixel(*row[x::w] if head == COLOUR else row[2 * x:2 * x + 2])'),
+    ('mono: planes of the whole segment', ROW, 'pixel(*row[x::w] if head == COLOUR else planes[y * w + x::rows * w][:2])'),
+    ('mono: rows of colour', 'row = planes[p * w * y:p * w * (y + 1)]', 'row = (planes + planes)[4 * w * y:4 * w * y + p * w]'),
+    ('mono: a colour that is none', ROW, 'pixel(*row[x::w]) if head == COLOUR else pixel(*row[x::w], 0, 0)'),
+    ('mono: uv of the low byte', ROW, 'pixel(*row[x::w]) if head == COLOUR else pixel(*divmod(uv(row[w + x]), 256))'),
+    ('mono: three numbers, of which two are 0', ROW, 'pixel(*row[x::w]) if head == COLOUR else pixel(*row[x::w]) + [0] * 4'),
     ('five channels', 'if not 1 <= ch <= 4:', 'if not 1 <= ch <= 5:'),
     ('three channels', 'if not 1 <= ch <= 4:', 'if not 1 <= ch <= 3:'),
     ('channels are 32 bits', 'if not 1 <= ch <= 4:', 'if not 1 <= ch % 2 ** 32 <= 4:'),

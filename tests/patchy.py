@@ -12,18 +12,17 @@ the pixels are then those of strict reading, by the model of tests/strict.py (ru
 the pixels are libtiff's own, by its CRC-32.
 """
 import collections
-import inspect
 import zlib
 
 import front
 import strict
 from common import FILL, ROOM, TOP, Draw, record_of
-from front import NOTE, SIZES, STRIPS, WIDE, Limits, Reading, Refused, but, limited, patched, picture, tiff
-from leaf import CASE1, literal, packets, run
+from front import COLOUR, MONO, NOTE, SIZES, STRIPS, WIDE, Limits, Reading, Refused, but, limited, patched, picture, tiff, value
+from leaf import CASE1, CASE14, CASE15, expanded, literal, packets, run
 from libtiff import file_of, vouched
-from strict import (CASE13, COUNTS, IN_FIELD, KINDS, LOTS, OFFSETS, ORDERS, PAIRS, STRIP2, STRIP3, TILE2, VALUES_WRONG, coded,
-                    drawn, emptied, flat, headed, inspected, laid, marked, placed, rows, shown, strips, tiles, value, with_base,
-                    with_part, with_range, wrong_parts)
+from strict import (CASE13, COUNTS, GREY3, GREY_TILE2, IN_FIELD, KINDS, LOTS, OFFSETS, ORDERS, PAIRS, STRIP2, STRIP3, TILE2,
+                    VALUES_WRONG, coded, drawn_pages, emptied, flat, headed, inspected, laid, marked, per_pixel, placed, rows, shown,
+                    strips, tiles, values_wrong, with_base, with_part, with_range, wrong_parts)
 
 # What is asked for, the lengths of the three buffers, the file and its map. Of libtiff's pictures, the CRC-32 of the pixels.
 Record = collections.namedtuple('Record', 'tag page limits units output scratch quality file blocks crc', defaults=(None,))
@@ -42,14 +41,15 @@ def judged(r, f, k):
     except Refused as why:
         return CODES[why.args[0]], 1, b''
     area = f.block_width * rows(f, k)
-    fee = count + 20 * area + 1
-    if packets(stored, 0, count, f.block_width, 4 * area) > 0:
+    fee = count + 2 * per_pixel(f) * area + 1
+    if packets(stored, 0, count, f.block_width, f.head.planes * area) > 0:
         return 4, fee, b''
     return 1, fee, stored
 
-# The picture (rule 8.7): what a good segment shows, and six zero bytes for each pixel of any other.
+# The picture (rule 8.7): what a good segment shows, and zero bytes for each pixel of any other.
 def patched_up(f, codes, parts):
-    own = [y // f.block_height * f.across + x // f.block_width for y in range(f.height) for x in range(f.width) for c in range(6)]
+    b = f.head.bytes
+    own = [y // f.block_height * f.across + x // f.block_width for y in range(f.height) for x in range(f.width) for c in range(b)]
     return [byte if codes[k] == 1 else 0 for k, byte in zip(own, shown(f, parts))]
 
 # A map has a byte for each block, or none at all (rules 8.2 and 8.3).
@@ -63,7 +63,7 @@ def admitted(r, page, limits, output, scratch, quality):
     limited(len(r.file), page, limits)
     mapped(r)
     f = picture(r, page, limits)
-    needed = 10 * f.block_width * f.block_height
+    needed = per_pixel(f) * f.block_width * f.block_height
     if needed > limits.output:
         raise Refused(4)
     if len(output) < f.output:
@@ -95,7 +95,8 @@ def line(kind, r):
     if isinstance(f, int):
         said = 'refused %d' % f
     else:
-        said = '%d x %d, blocks %d x %d, %d segments' % (f.width, f.height, f.block_width, f.block_height, f.segments)
+        said = '%d x %d, blocks %d x %d, %d segments, %d channels' % (
+            f.width, f.height, f.block_width, f.block_height, f.segments, f.head.channels)
     return '%-16s %s, left %d, output %08x, scratch %08x, codes %s, quality %08x' % (
         r.tag, said, reading.left, zlib.crc32(bytes(output)) if r.crc is None else r.crc, zlib.crc32(bytes(scratch)),
         ''.join(map(str, quality[:64])), zlib.crc32(bytes(quality)))
@@ -124,7 +125,7 @@ def apart(entries, bits, form):
 def needs_of(file, page):
     """The lengths of the buffers that a page asks for."""
     f = picture(Reading(file, b'', TOP), page, Limits(**WIDE))
-    return f.output, 10 * f.block_width * f.block_height, f.segments
+    return f.output, per_pixel(f) * f.block_width * f.block_height, f.segments
 
 def record(tag, file, blocks=b'', page=0, units=LOTS, more=(7, 5, 3), **limits):
     """A record whose buffers have the lengths that the page asks for, and so many more bytes."""
@@ -494,16 +495,19 @@ def single(make):
     for i in range(blocks_in(file)):
         yield record('lost-%d' % i, file, all_but(file, i))
 
-def stale():
-    """Losses, with four kinds of bytes in the lost blocks: the answer is the same for all four."""
-    draw = Draw(5)
+SPREAD = dict(directory=8, offsets=500, counts=540, at=[580, 760, 900, 1030])
+
+def stale_bases():
     page, former = strips(8, 12, 3), strips(8, 12, 3, flat, seed=7)
-    spread = dict(directory=8, offsets=500, counts=540, at=[580, 760, 900, 1030])
-    bases = (('first', placed(page, **spread), placed(former, **{**spread, 'at': [1030, 580, 640, 700]}), ((1,), (2,), (0,))),
-             ('last', placed(page, at=8, directory=420), placed(former, at=8, directory=420), ((0,), (1,))),
-             ('tiles', placed(TILE2, at=[400, 560], big=True), placed(tiles(17, 5, seed=3), at=[400, 530], big=True), ((1,),)),
-             ('codes', with_range(placed(page, **spread), 1, 700, 3), laid(TILE2), ((2,), (1, 2))),
-             ('inline', headed(False), emptied(False), ((2,),)))
+    return (('first', placed(page, **SPREAD), placed(former, **{**SPREAD, 'at': [1030, 580, 640, 700]}), ((1,), (2,), (0,))),
+            ('last', placed(page, at=8, directory=420), placed(former, at=8, directory=420), ((0,), (1,))),
+            ('tiles', placed(TILE2, at=[400, 560], big=True), placed(tiles(17, 5, seed=3), at=[400, 530], big=True), ((1,),)),
+            ('codes', with_range(placed(page, **SPREAD), 1, 700, 3), laid(TILE2), ((2,), (1, 2))),
+            ('inline', headed(False), emptied(False), ((2,),)))
+
+def stale(seed, bases):
+    """Losses, with four kinds of bytes in the lost blocks: the answer is the same for all four."""
+    draw = Draw(seed)
     for name, file, before, losses in bases:
         before = (before + b'?' * len(file))[:len(file)]
         for lost in losses:
@@ -537,6 +541,18 @@ def came(tag, r):
     blocks = b'\x01' * blocks_in(r.file) if len(tag) % 2 else b''
     return record(tag, r.file, blocks, r.page, r.units)._replace(limits=r.limits)
 
+def pictured(mono):
+    """libtiff's pictures: those whose names begin with m, or all others."""
+    for name, pages in vouched().items():
+        if name.startswith('m') != mono:
+            continue
+        short = name.split('/')[-1].split('_')[0]
+        file = file_of(name)
+        for page, (numbers, crc, sha) in enumerate(pages):
+            if len(file) < 2000 or page == 1:
+                for way, blocks in (('map', all_but(file)), ('none', b'')) if len(file) < 300 else (('map', all_but(file)),):
+                    yield agrees(record('%s-%d-%s' % (short, page, way), file, blocks, page=page, more=(0, 5, 3))._replace(crc=crc))
+
 def whole():
     # some files of strict reading, of those that it accepts and of those that it refuses
     for i, r in enumerate(strict.layouts()):
@@ -547,19 +563,176 @@ def whole():
         for i, r in enumerate(made()):
             if len(r.file) < 2000 and i % step == 0:
                 yield agrees(came('%d %s' % (i, r.tag[:12]), r))
-    # libtiff's pictures
-    for name, pages in vouched().items():
-        short = name.split('/')[-1].split('_')[0]
-        file = file_of(name)
-        for page, (numbers, crc, sha) in enumerate(pages):
-            if len(file) < 2000 or page == 1:
-                for way, blocks in (('map', all_but(file)), ('none', b'')) if len(file) < 300 else (('map', all_but(file)),):
-                    yield agrees(record('%s-%d-%s' % (short, page, way), file, blocks, page=page, more=(0, 5, 3))._replace(crc=crc))
+    yield from pictured(False)
 
-def random(name, seed, how_many):
+# Pictures of the monochrome head
+GREYED, GREY_TILED, GREY_SINGLE = laid(GREY3), laid(GREY_TILE2, big=True), laid(strips(3, 5, 5, head=MONO))
+
+def mono_rooms():
+    # 4 x bw x bh against max_output, where that is more than the picture's own bytes; ten bytes a pixel are not asked for
+    short, tile = laid(strips(3, 3, 2, head=MONO)), laid(GREY_TILE2)
+    for name, file, sizes in (('single', GREY_SINGLE, (29, 30, 59, 60, 61, 149)), ('strips', short, (17, 18, 23, 24, 25, 59)),
+                              ('tiles', tile, (169, 170, 1023, 1024, 1025, 2559))):
+        for n in sizes:
+            yield record('%s-4A-%d' % (name, n), file, output=n)
+    # it comes before everything that follows
+    for name, file, n in (('strips', short, 23), ('tiles', tile, 1023)):
+        yield record('%s-4A-6' % name, file, output=n, more=(-1, -1, -1))
+        yield record('%s-4A-7' % name, file, output=n, units=141)
+        yield record('%s-4A-128' % name, file, output=n, units=138)
+        yield record('%s-4A-out' % name, with_range(file, 0, 4000, 1), output=n)
+        yield record('%s-4A-bad' % name, with_range(file, 0, 8, 2), output=n)
+    # buffers: each one short, just right, one more, none; and none of the units for what follows
+    for name, file in (('s', GREYED), ('t', GREY_TILED), ('o', GREY_SINGLE)):
+        for which, buffer in enumerate(('output', 'scratch', 'quality')):
+            for way, n in (('less', -1), ('just', 0), ('one', 1), ('none', -LOTS), ('much', 200))[:5 if name == 's' else 2]:
+                yield record('%s-%s-%s' % (name, buffer, way), file, more=tuple(n if i == which else 9 for i in range(3)))
+            yield record('%s-%s-7' % (name, buffer), file, units=200, more=tuple(-1 if i == which else 9 for i in range(3)))
+    yield record('all-less', GREYED, more=(-1, -1, -1))
+    yield record('all-just', GREYED, more=(0, 0, 0))
+    yield record('all-none', GREYED, more=NONE)
+    yield record('as-colour', GREYED, more=(60, 36, 0))
+    for way, more in (('output', (-1, 0, 0)), ('scratch', (0, -1, 0)), ('quality', (0, 0, -1)), ('just', (0, 0, 0))):
+        yield record('no-good-' + way, with_base(GREYED, OFFSETS, 5000), more=more)
+    # units one short of all that is charged, just enough and one more
+    far = placed(GREY3, at=[180, 512, 560])
+    bad = with_part(GREYED, 1, b'\xff')
+    for case in (('good', GREYED, b''), ('tiles', GREY_TILED, b'\x01'), ('single', GREY_SINGLE, b''), ('bad', bad, b''), ('lost', far, b'\x01\x00'),
+                 ('out', with_range(GREYED, 1, 5000, 1), b''), ('no-offsets', with_base(GREYED, OFFSETS, 5000), b''),
+                 ('empty', with_range(GREYED, 2, 0, 0), b''), ('all-bad', with_base(GREYED, OFFSETS, 0), b''),
+                 ('out-and-bad', with_range(bad, 0, 5000, 1), b'')):
+        yield from around(*case)
+    for units in (0, 10, 11, 138, 139, 140, TOP):
+        yield record('units-%s' % (units if units < TOP else 'top'), GREYED, b'\x01', units=units)
+    fees = [len(part) + 24 * height + 1 for part, height in zip(GREY3[1], (2, 2, 1))]
+    for k in range(3):
+        yield record('first-%d-paid' % k, GREYED, units=139 + sum(fees[:k + 1]) - (k == 2))
+    for page, units in ((0, LOTS), (2, LOTS), (2, 160), (2, 161)):
+        yield record('loop-%d-%d' % (page, units), laid(strips(2, 3, 2, head=MONO), after=8), page=page, units=units)
+    # profile: a refusal of each step, and what would refuse later
+    for name, change, rest in (('scalar', (257, 5, 1, 5), {}), ('photometric', (262, 3, 1, 32845), {}), ('samples', (277, 3, 1, 3), {}),
+                               ('ones', (266, 3, 1, 2), {}), ('bits', (258, 3, 3, 0), {}), ('bits-8', (258, 3, 1, 8), {}), ('form', 339, {}),
+                               ('rows', (278, 3, 1, 0), {}), ('tile-tag', (325, 4, 3, 0), {}), ('segments', NOTE, dict(segments=2)),
+                               ('output', NOTE, dict(output=29)), ('offsets', 273, {}), ('counts', (279, 4, 2, 0), {})):
+        yield record('step-' + name, tiff([(8, but(front.GREY, change), 0)]), units=141, more=(-1, -1, -1), **rest)
+
+def mono_quality():
+    # ranges outside, not arrived, empty, at the edge of a block
+    base = placed(GREY3, at=[180, 512, 560])
+    n = len(base)
+    for k in range(3):
+        for name, start, count in (('out-1', 512, n - 511), ('out-lost', n - 1, 2), ('end', n, 0), ('past', n + 1, 0), ('lost-1', n - 1, 1),
+                                   ('before', 200, 312), ('before-1', 200, 313), ('empty-lost', 520, 0), ('far-wrap', 2 ** 32 - 8, 40)):
+            if k == 1 or name in ('out-lost', 'before'):
+                yield record('%d-%s' % (k, name), with_range(base, k, start, count), b'\x01\x00')
+    # each segment in a block of its own, of which one or more did not come
+    for name, file in (('s', placed(GREY3, at=[300, 600, 1024])), ('t', placed(GREY_TILE2, at=[384, 512], big=True))):
+        for k in range(2 ** (blocks_in(file) - 1)):
+            blocks = b'\x01' + bytes(k >> i & 1 for i in range(blocks_in(file) - 1))
+            yield record('own-%s-%d' % (name, k), file, blocks)
+    # packets that are refused, those of the other head among them
+    for way, part in wrong_parts(3, 4):
+        if way in ('past-lit', 'full-lit', 'full-zero', 'long-end', 'cross-first', 'cross-row', 'left-byte', 'nothing', 'zeros'):
+            yield record('of-0-' + way, with_part(GREYED, 0, part))
+    for k in range(3):
+        yield record('colour-%d' % k, with_part(GREYED, k, STRIP3[1][k]))
+        yield record('in-colour-%d' % k, with_part(STRIPED, k, GREY3[1][k]))
+    yield record('full-strip', with_part(GREYED, 2, coded(3, 2, 2, MONO)))
+    yield record('short-tile', with_part(laid(GREY_TILE2), 1, flat(16, 5, 1, MONO)))
+    yield record('bad-tile', with_part(laid(GREY_TILE2), 0, b'\xff'))
+    for name, part in (('14', CASE14), ('15', CASE15), ('14-zero', CASE14 + b'\x00'), ('14-83', b'\x83' + CASE14[1:]), ('14-less', CASE14[:-2]),
+                       ('14-more', CASE14 + b'\x01\x09'), ('14-none', b''), ('14-twice', CASE14 * 2), ('14-colour', CASE1)):
+        yield record('mark' + name, marked(part, MONO), b'\x01')
+    for s, big in ORDERS:
+        yield record('mark14-' + s, marked(CASE14, MONO, big=big))
+        yield record('mark15-' + s, marked(CASE15, MONO, big=big))
+    # every code in one picture, in both orders of segments: with packets that differ, and with zeros, which are good all the same
+    for name, turn, parts in (('up', 1, strips(2, 8, 1, head=MONO)[1]), ('down', -1, strips(2, 8, 1, head=MONO)[1]),
+                              ('zeros', 1, [CASE15] * 8), ('zeros-d', -1, [CASE15] * 8), ('some', 1, [CASE15, CASE14] * 4)):
+        at = [300, 320, 512, 340, 360, 530, 380, 400][::turn]
+        mixed = patched(placed((strips(2, 8, 1, head=MONO)[0], parts), at=at), at[1], b'\xff')
+        mixed = with_range(mixed, (3, 4)[turn < 0], 5000, 1)
+        yield record('codes-' + name, mixed, b'\x01\x00')
+        yield record('codes-%s-in' % name, mixed, b'\x01\x01')
+    # tiles beside each other and below, each of them lost, bad or outside by itself: the neighbours keep their pixels
+    places = [200, 270, 340, 410, 512, 582]
+    file = placed(tiles(33, 17, head=MONO), at=places)
+    yield record('edges-came', file, b'\x01\x01')
+    yield record('edges-lost', file, b'\x01\x00')
+    for k, place in enumerate(places):
+        yield record('edges-bad-%d' % k, patched(file, place, b'\xff'))
+        yield record('edges-out-%d' % k, with_range(file, k, 9999, 9))
+    # strips below each other, whose rows are short
+    for width in (1, 2, 3):
+        file = laid(strips(width, 6, 1, flat if width > 1 else coded, head=MONO))
+        for k in range(6):
+            if width == 1 or k % 2:
+                yield record('narrow-%d-%d' % (width, k), with_range(file, k, 9999, 9))
+
+def mono_blocks():
+    # header, directory, offsets, counts and strips in blocks of their own: slots 2 and 18 stand in the directory
+    file = placed(GREY3, directory=512, offsets=1024, counts=1536, at=2048)
+    yield record('all-came', file, all_but(file))
+    for i, name in enumerate(('header', 'directory', 'offsets', 'counts', 'strips')):
+        yield record('no-' + name, file, all_but(file, i, says=(0, 2, 255)[i % 3]))
+    # what would be their place did not come, or is outside: of right values that is never asked, and wrong ones are 3
+    for tag, right in ((258, 16), (339, 2)):
+        for kind in (3, 4):
+            for way, field in (('right', [right]), ('place', 600), ('out', 5000), ('three', (600, [right] * 3))):
+                own = but(GREY3[0], (tag, kind, 3 if way == 'three' else 1, field))
+                file = placed((own, GREY3[1]), at=180, size=640, big=kind == 3)
+                yield record('%d-%d-%s' % (tag, kind, way), file, b'\x01\x00')
+    # a directory across two blocks
+    for at in (392, 440, 476):
+        file = placed(GREY3, directory=at, at=8)
+        for blocks in (b'\x01\x01', b'\x01\x00'):
+            yield record('across-%d-%d' % (at, blocks[1]), file, blocks)
+    # values of arrays in the field
+    for s, big in ORDERS:
+        zero, empty = headed(big, False, (3, 3), MONO), emptied(big, True, (3, 3), MONO)
+        yield record('zero-' + s, zero, all_but(zero))
+        yield record('zero-%s-lost' % s, zero, all_but(zero, 2))
+        yield record('empty-' + s, empty, all_but(empty))
+        yield record('empty-%s-lost' % s, empty, all_but(empty, 1))
+
+def mono_pages():
+    # pages of both heads, with each block lost
+    mixed = laid(STRIP3, GREY3, GREY_TILE2, TILE2)
+    for page in range(4):
+        for lost in range(-1, blocks_in(mixed)):
+            yield record('mixed-%d-no-%d' % (page, lost) if lost >= 0 else 'mixed-%d' % page, mixed, all_but(mixed, lost), page=page)
+    for says in (0, 1, 2, 3, 255):
+        small = placed(GREY3, at=[180, 512, 560])
+        yield record('says-%d' % says, small, all_but(small, 1, says=says))
+    # each block of a file of seventeen strips lost by itself
+    for name, make in (('first', laid), ('last', turned)):
+        file = make(strips(60, 34, 2, head=MONO))
+        for i in range(blocks_in(file)):
+            yield record('%s-no-%d' % (name, i), file, all_but(file, i))
+
+def mono_stale_bases():
+    page, former = strips(8, 12, 3, head=MONO), strips(8, 12, 3, flat, seed=7, head=MONO)
+    zeros = [run(8, 0) * 2 * 3] * 4
+    return (('first', placed(page, **SPREAD), placed(former, **{**SPREAD, 'at': [1030, 580, 640, 700]}), ((1,), (2,), (0,))),
+            ('colour', placed(page, **SPREAD), placed(strips(8, 12, 3), **SPREAD), ((1,), (2,))),
+            ('last', placed(page, at=8, directory=420), placed(former, at=8, directory=420), ((0,), (1,))),
+            ('tiles', placed(GREY_TILE2, at=[400, 560], big=True), placed(TILE2, at=[400, 530], big=True), ((1,),)),
+            ('zeros', placed((page[0], zeros), **SPREAD), placed(page, **SPREAD), ((1,), (2,))),
+            ('inline', headed(False, head=MONO), emptied(False), ((2,),)))
+
+def mono_whole():
+    # some files of strict reading, of those that it accepts and of those that it refuses
+    for made, step, most in ((strict.mono_layouts, 3, 500), (strict.mono_ranges, 5, 2000), (strict.mono_budgets, 6, 2000),
+                             (strict.mono_packets, 5, 2000), (strict.mono_handles, 40, 2000)):
+        for i, r in enumerate(made()):
+            if len(r.file) < most and i % step == 0:
+                yield agrees(came('%d %s' % (i, r.tag[:12]), r))
+    yield from pictured(True)
+
+def random(name, seed, how_many, heads=(COLOUR,)):
     draw = Draw(seed)
     for i in range(how_many):
-        own = [drawn(draw) for _ in range(draw.of((1, 1, 1, 2)))]
+        own = drawn_pages(draw, heads)
         page, big, kinds = draw.below(len(own)), draw.below(2) == 1, draw.of(KINDS)
         way = draw.below(4)
         if way == 0:
@@ -615,14 +788,21 @@ def files():
         ('metadata.bin', metadata()),
         ('single_first.bin', single(laid)),
         ('single_last.bin', single(turned)),
-        ('stale.bin', stale()),
+        ('stale.bin', stale(5, stale_bases())),
         ('whole.bin', whole()),
-        ('random.bin', random('drawn', 1, 40)))]
+        ('random.bin', random('drawn', 1, 40)),
+        ('mono_rooms.bin', mono_rooms()),
+        ('mono_quality.bin', mono_quality()),
+        ('mono_blocks.bin', mono_blocks()),
+        ('mono_pages.bin', mono_pages()),
+        ('mono_stale.bin', stale(7, mono_stale_bases())),
+        ('mono_whole.bin', mono_whole()),
+        ('mono_random.bin', random('mono', 2, 80, (MONO, MONO, COLOUR))))]
 
 def packed(r):
     return record_of(r.tag, (r.page, *r.limits, r.units), (r.output, r.scratch, r.quality), r.file, r.blocks)
 
-# Mistakes, each a change of one place of the model: what they are, the text and what stands there instead.
+# Mistakes, each a change of one place of the model: what they are, the text and what stands there instead. Two of them need `expanded`.
 READ = ("        offset = value(r, f.offsets, k)\n        count = value(r, f.counts, k)\n        stored = r.part(offset, count)\n")
 SEEN_WHOLE = "    bare = Reading(r.file, b'', r.left)\n    bare.order = r.order\n"   # the same file, as if everything had come
 READ_BARE = READ.replace('r.part(offset, count)', "Reading(r.file, b'', 0).part(offset, count)")
@@ -630,8 +810,11 @@ ROOMS = ("    if len(output) < f.output:\n        raise Refused(6)\n    if len(s
          "    if len(quality) < f.segments:\n        raise Refused(6)\n")
 LIMIT = "    if needed > limits.output:\n        raise Refused(4)\n"
 CHARGE = "    r.charge(sum(charges))\n"
-# Mistakes of what this model has from tests/strict.py, the value of an array. The wrong function stands before the one that uses it.
-VALUE, USER = inspect.getsource(value), 'def judged(r, f, k):\n'
+ROOM_OF = '    needed = per_pixel(f) * f.block_width * f.block_height\n'
+FEE, NEED = 'fee = count + 2 * per_pixel(f) * area + 1', 'f.head.planes * area) > 0:'
+ACCEPTED = 'if packets(stored, 0, count, f.block_width, ' + NEED
+SHOWN, SAID = 'if codes[k] == 1 else 0 for k, byte in zip(own, shown(f, parts))]', (
+    'f.width, f.height, f.block_width, f.block_height, f.segments, f.head.channels)')
 ASKED_WRONG = tuple((name, IN_FIELD, IN_FIELD.replace('return', asked + '\n        return')) for name, asked in (
     ('values of the field are lost with the place that it would be',
      'if r.number(array.field) < len(r.file):\n            r.part(r.number(array.field), 1)'),
@@ -643,7 +826,7 @@ ASKED_WRONG = tuple((name, IN_FIELD, IN_FIELD.replace('return', asked + '\n     
     ('all up to the field is to come', 'r.part(0, array.place + 12)'),
     ('all from the field on is to come', 'r.part(array.place, len(r.file) - array.place)'),
     ('the last block is to come', 'r.part(len(r.file) - 1, 1)')))
-WRONG = tuple((name, USER, VALUE.replace(old, new) + USER) for name, old, new in VALUES_WRONG + ASKED_WRONG) + (
+WRONG = values_wrong('def judged(r, f, k):\n', VALUES_WRONG + ASKED_WRONG) + (
     # the quality of a segment
     ('outside is 2', 'CODES = {1: 3, 8: 2}', 'CODES = {1: 2, 8: 2}'),
     ('not arrived is 3', 'CODES = {1: 3, 8: 2}', 'CODES = {1: 3, 8: 3}'),
@@ -672,8 +855,7 @@ WRONG = tuple((name, USER, VALUE.replace(old, new) + USER) for name, old, new in
     ('the block of an empty range too', 'stored = r.part(offset, count)',
      'stored = r.part(offset, count)\n        if offset < len(r.file):\n            r.part(offset, max(1, count))'),
     ('an empty range is outside', 'stored = r.part(offset, count)', 'stored = r.part(offset if count else TOP, count)'),
-    ('an empty range is good', 'if packets(stored, 0, count, f.block_width, 4 * area) > 0:',
-     'if count and packets(stored, 0, count, f.block_width, 4 * area) > 0:'),
+    ('an empty range is good', ACCEPTED, ACCEPTED.replace('if', 'if count and')),
     ('an empty range at the end is outside', 'stored = r.part(offset, count)',
      'stored = r.part(offset, max(count, 1) if offset >= len(r.file) else count)'),
     ('a range that is outside lost first', 'stored = r.part(offset, count)',
@@ -698,9 +880,9 @@ WRONG = tuple((name, USER, VALUE.replace(old, new) + USER) for name, old, new in
      "return (1, fee, stored) if k == 0 or judged(r, f, k - 1)[0] == 1 else (4, fee, b'')"),
     ('refused packets are 2', 'return 4, fee', 'return 2, fee'),
     ('refused packets are 3', 'return 4, fee', 'return 3, fee'),
-    ('packets are not looked at', 'if packets(stored, 0, count, f.block_width, 4 * area) > 0:', 'if False:'),
-    ('only short packets are refused', '4 * area) > 0:', '4 * area) == 1:'),
-    ('only bad packets are refused', '4 * area) > 0:', '4 * area) == 2:'),
+    ('packets are not looked at', ACCEPTED, 'if False:'),
+    ('only short packets are refused', NEED, NEED.replace('> 0', '== 1')),
+    ('only bad packets are refused', NEED, NEED.replace('> 0', '== 2')),
     ('good is 0', 'return 1, fee, stored', 'return 0, fee, stored'),
     ('all segments that came are good', "return 4, fee, b''", "return 1, fee, stored"),
     ('no segment is good', 'return 1, fee, stored', "return 2, 1, b''"),
@@ -714,14 +896,14 @@ WRONG = tuple((name, USER, VALUE.replace(old, new) + USER) for name, old, new in
     ('a segment outside is free', "return CODES[why.args[0]], 1, b''", "return CODES[why.args[0]], 1 if why.args[0] == 8 else 0, b''"),
     ('a segment not arrived is free', "return CODES[why.args[0]], 1, b''", "return CODES[why.args[0]], 1 if why.args[0] == 1 else 0, b''"),
     ('a lost segment costs its area', "return CODES[why.args[0]], 1, b''",
-     "return CODES[why.args[0]], 20 * f.block_width * rows(f, k) + 1, b''"),
+     "return CODES[why.args[0]], 2 * per_pixel(f) * f.block_width * rows(f, k) + 1, b''"),
     ('refused packets cost one', "return 4, fee, b''", "return 4, 1, b''"),
     ('refused packets are free', "return 4, fee, b''", "return 4, 0, b''"),
     ('good segments cost one', 'return 1, fee, stored', 'return 1, 1, stored'),
-    ('the fee without one', 'fee = count + 20 * area + 1', 'fee = count + 20 * area'),
-    ('the fee without the count', 'fee = count + 20 * area + 1', 'fee = 20 * area + 1'),
-    ('the fee by 10A', 'fee = count + 20 * area + 1', 'fee = count + 10 * area + 1'),
-    ('the fee of a whole block', 'fee = count + 20 * area + 1', 'fee = count + 20 * f.block_width * f.block_height + 1'),
+    ('the fee without one', FEE, FEE.replace(' + 1', '')),
+    ('the fee without the count', FEE, FEE.replace('count + ', '')),
+    ('the fee by 10A', FEE, FEE.replace('2 * ', '')),
+    ('the fee of a whole block', FEE, FEE.replace('area', 'f.block_width * f.block_height')),
     ('the first charge alone', 'r.charge(sum(charges))', 'r.charge(charges[0])'),
     ('the last charge is left out', 'r.charge(sum(charges))', 'r.charge(sum(charges[:-1]))'),
     ('the largest charge', 'r.charge(sum(charges))', 'r.charge(max(charges))'),
@@ -737,21 +919,21 @@ WRONG = tuple((name, USER, VALUE.replace(old, new) + USER) for name, old, new in
      '    if r.left < sum(charges):\n        r.left += 128 + f.entries + 1\n        raise Refused(7)\n' + CHARGE),
     ('units short are 4', CHARGE, '    if r.left < sum(charges):\n        raise Refused(4)\n' + CHARGE),
     ('units short are 6', CHARGE, '    if r.left < sum(charges):\n        raise Refused(6)\n' + CHARGE),
-    ('strict reading\'s fees of all', CHARGE, "    r.charge(sum(20 * f.block_width * rows(f, k) + 1 for k in range(f.segments)))\n"),
+    ('strict reading\'s fees of all', CHARGE, '    r.charge(sum(2 * per_pixel(f) * f.block_width * rows(f, k) + 1 for k in range(f.segments)))\n'),
     # the picture
     ('the previous picture under code 2', 'if codes[k] == 1 else 0', 'if codes[k] in (1, 2) else 0'),
     ('the previous picture under code 3', 'if codes[k] == 1 else 0', 'if codes[k] in (1, 3) else 0'),
     ('the previous picture under code 4', 'if codes[k] == 1 else 0', 'if codes[k] in (1, 4) else 0'),
     ('the previous picture under any code', 'if codes[k] == 1 else 0', 'if True else 0'),
     ('a lost segment is 255', 'if codes[k] == 1 else 0', 'if codes[k] == 1 else 255'),
-    ('a lost segment has the colour of 0', 'if codes[k] == 1 else 0 for k, byte in zip(own, shown(f, parts))]',
-     'if codes[k] == 1 else (0, 0, 39, 0, 39, 0)[i % 6] for i, (k, byte) in enumerate(zip(own, shown(f, parts)))]'),
-    ('only the L of a lost segment is zero', 'if codes[k] == 1 else 0 for k, byte in zip(own, shown(f, parts))]',
-     'if codes[k] == 1 or i % 6 > 1 else 0 for i, (k, byte) in enumerate(zip(own, shown(f, parts)))]'),
-    ('only the first row of a lost segment is zero', 'if codes[k] == 1 else 0 for k, byte in zip(own, shown(f, parts))]',
-     'if codes[k] == 1 or i // (6 * f.width) % f.block_height else 0 for i, (k, byte) in enumerate(zip(own, shown(f, parts)))]'),
-    ('the last row of a lost segment stays', 'if codes[k] == 1 else 0 for k, byte in zip(own, shown(f, parts))]',
-     'if codes[k] == 1 or i // (6 * f.width) == f.height - 1 else 0 for i, (k, byte) in enumerate(zip(own, shown(f, parts)))]'),
+    ('a lost segment has the colour of 0', SHOWN,
+     'if codes[k] == 1 else (0, 0, 39, 0, 39, 0)[i % b] for i, (k, byte) in enumerate(zip(own, shown(f, parts)))]'),
+    ('only the L of a lost segment is zero', SHOWN,
+     'if codes[k] == 1 or i % b > 1 else 0 for i, (k, byte) in enumerate(zip(own, shown(f, parts)))]'),
+    ('only the first row of a lost segment is zero', SHOWN,
+     'if codes[k] == 1 or i // (b * f.width) % f.block_height else 0 for i, (k, byte) in enumerate(zip(own, shown(f, parts)))]'),
+    ('the last row of a lost segment stays', SHOWN,
+     'if codes[k] == 1 or i // (b * f.width) == f.height - 1 else 0 for i, (k, byte) in enumerate(zip(own, shown(f, parts)))]'),
     ('the segments of a row are blank together', 'if codes[k] == 1 else 0',
      'if all(c == 1 for c in codes[k // f.across * f.across:][:f.across]) else 0'),
     ('the picture is blank where a segment is', 'if codes[k] == 1 else 0', 'if set(codes) == {1} else 0'),
@@ -807,7 +989,7 @@ WRONG = tuple((name, USER, VALUE.replace(old, new) + USER) for name, old, new in
      'if needed > limits.output:\n        raise Refused(6)'),
     ('scratch above the limit is 3', 'if needed > limits.output:\n        raise Refused(4)',
      'if needed > limits.output:\n        raise Refused(3)'),
-    ('6A is limited', 'if needed > limits.output:', 'if needed // 10 * 6 > limits.output:'),
+    ('6A is limited', 'if needed > limits.output:', 'if needed // per_pixel(f) * f.head.bytes > limits.output:'),
     ('the buffers before the limit of scratch', LIMIT + ROOMS, ROOMS + LIMIT),
     ('the output before the limit of scratch', LIMIT, '    if len(output) < f.output:\n        raise Refused(6)\n' + LIMIT),
     ('the limit of scratch after the charge', LIMIT + ROOMS,
@@ -825,7 +1007,7 @@ WRONG = tuple((name, USER, VALUE.replace(old, new) + USER) for name, old, new in
     ('scratch may be one short', 'if len(scratch) < needed:', 'if len(scratch) + 1 < needed:'),
     ('scratch may be short where no segment is good', 'if len(scratch) < needed:',
      'if len(scratch) < needed and any(judged(r, f, k)[0] == 1 for k in range(f.segments)):'),
-    ('scratch for the planes', 'if len(scratch) < needed:', 'if len(scratch) < needed // 10 * 4:'),
+    ('scratch for the planes', 'if len(scratch) < needed:', 'if len(scratch) < needed // per_pixel(f) * f.head.planes:'),
     ('scratch short is 4', 'if len(scratch) < needed:\n        raise Refused(6)', 'if len(scratch) < needed:\n        raise Refused(4)'),
     ('quality is not tested', 'if len(quality) < f.segments:', 'if False:'),
     ('quality must be exact', 'if len(quality) < f.segments:', 'if len(quality) != f.segments:'),
@@ -859,7 +1041,8 @@ WRONG = tuple((name, USER, VALUE.replace(old, new) + USER) for name, old, new in
     ('scratch stays', '[0] * needed + scratch[needed:]', 'scratch'),
     ('scratch is zeroed whole', '[0] * needed + scratch[needed:]', '[0] * len(scratch)'),
     ('scratch is zeroed but for a byte', '[0] * needed + scratch[needed:]', '[0] * (needed - 1) + scratch[needed - 1:]'),
-    ('only the planes are zeroed', '[0] * needed + scratch[needed:]', '[0] * (needed // 10 * 4) + scratch[needed // 10 * 4:]'),
+    ('only the planes are zeroed', '[0] * needed + scratch[needed:]',
+     '[0] * (needed // per_pixel(f) * f.head.planes) + scratch[needed // per_pixel(f) * f.head.planes:]'),
     ('scratch stays where no segment is good', '[0] * needed + scratch[needed:]',
      '([0] * needed if 1 in codes else scratch[:needed]) + scratch[needed:]'),
     ('quality bytes behind the last segment stay', '[0] * behind\n', 'quality[:behind]\n'),
@@ -870,12 +1053,67 @@ WRONG = tuple((name, USER, VALUE.replace(old, new) + USER) for name, old, new in
     ('the first code for all', 'list(codes) + [0]', '[codes[0]] * len(codes) + [0]'),
     ('the last code is left out', 'list(codes) + [0]', 'list(codes[:-1]) + [0, 0]'),
     # the answer
-    ('the sides are swapped', '(f.width, f.height, f.block_width, f.block_height, f.segments)',
-     '(f.height, f.width, f.block_width, f.block_height, f.segments)'),
-    ('the sides of blocks are swapped', '(f.width, f.height, f.block_width, f.block_height, f.segments)',
-     '(f.width, f.height, f.block_height, f.block_width, f.segments)'),
-    ('segments that are good', '(f.width, f.height, f.block_width, f.block_height, f.segments)',
-     '(f.width, f.height, f.block_width, f.block_height, quality.count(1))'),
-    ('segments across', '(f.width, f.height, f.block_width, f.block_height, f.segments)',
-     '(f.width, f.height, f.block_width, f.block_height, f.across)'),
+    ('the sides are swapped', SAID, SAID.replace('f.width, f.height', 'f.height, f.width')),
+    ('the sides of blocks are swapped', SAID, SAID.replace('f.block_width, f.block_height', 'f.block_height, f.block_width')),
+    ('segments that are good', SAID, SAID.replace('f.segments', 'quality.count(1)')),
+    ('segments across', SAID, SAID.replace('f.segments', 'f.across')),
+    # heads
+    ('three channels of mono', SAID, SAID.replace('f.head.channels', '3')),
+    ('one channel of colour', SAID, SAID.replace('f.head.channels', '1')),
+    ('the bytes for the channels', SAID, SAID.replace('channels', 'bytes')),
+    ('the fee of colour for mono', FEE, FEE.replace('per_pixel(f)', '10')),
+    ('the fee of mono for colour', FEE, FEE.replace('per_pixel(f)', '4')),
+    ('the fee of mono by 4A', FEE, FEE.replace('2 *', '(1 + (f.head == COLOUR)) *')),
+    ('the fee of mono by 2A', FEE, FEE.replace('2 * per_pixel(f)', '(20 if f.head == COLOUR else 2)')),
+    ('the fee of mono by 12A', FEE, FEE.replace('2 * per_pixel(f)', '(20 if f.head == COLOUR else 12)')),
+    ('the fee of mono without one', FEE, FEE.replace('+ 1', '+ (f.head == COLOUR)')),
+    ('mono is free', CHARGE, CHARGE.replace('sum(charges)', 'sum(charges) if f.head == COLOUR else 0')),
+    ('packets of mono need 4A', NEED, NEED.replace('f.head.planes', '4')),
+    ('packets of mono need A', NEED, NEED.replace('f.head.planes', '(4 if f.head == COLOUR else 1)')),
+    ('packets of colour need 2A', NEED, NEED.replace('f.head.planes', '2')),
+    ('packets of mono need 2A or 4A', ACCEPTED,
+     ACCEPTED[:-1] + ' and (f.head == COLOUR or packets(stored, 0, count, f.block_width, 4 * area) > 0):'),
+    ('packets of mono are not looked at', ACCEPTED, ACCEPTED[:-1] + ' and f.head == COLOUR:'),
+    ('a stride of two rows for mono', 'packets(stored, 0, count, f.block_width,',
+     'packets(stored, 0, count, (1 + (f.head == MONO)) * f.block_width,'),
+    ('scratch of colour for mono', ROOM_OF, '    needed = 10 * f.block_width * f.block_height\n'),
+    ('scratch of mono for colour', ROOM_OF, '    needed = 4 * f.block_width * f.block_height\n'),
+    ('scratch of mono is 2A', ROOM_OF, ROOM_OF.replace('per_pixel(f)', '(10 if f.head == COLOUR else 2)')),
+    ('scratch of mono is 6A', ROOM_OF, ROOM_OF.replace('per_pixel(f)', 'max(6, per_pixel(f))')),
+    ('10A of mono is limited', 'if needed > limits.output:', 'if 10 * f.block_width * f.block_height > limits.output:'),
+    ('4A of colour is limited', 'if needed > limits.output:', 'if 4 * f.block_width * f.block_height > limits.output:'),
+    ('4A of mono is not limited', 'if needed > limits.output:', 'if needed > limits.output and f.head == COLOUR:'),
+    ('4A of mono at the limit', 'if needed > limits.output:', 'if needed > limits.output - (f.head == MONO):'),
+    ('4A of mono one above the limit', 'if needed > limits.output:', 'if needed > limits.output + (f.head == MONO):'),
+    ('4A of mono after the buffers', LIMIT + ROOMS,
+     '    if f.head == COLOUR:\n' + LIMIT.replace('    ', '        ', 1).replace('        raise', '            raise') + ROOMS + LIMIT),
+    ('output of mono is tested by six bytes a pixel', 'if len(output) < f.output:', 'if len(output) < 6 * f.width * f.height:'),
+    ('output of colour is tested by two bytes a pixel', 'if len(output) < f.output:', 'if len(output) < 2 * f.width * f.height:'),
+    ('scratch of mono is tested by ten bytes a pixel', 'if len(scratch) < needed:', 'if len(scratch) < 10 * f.block_width * f.block_height:'),
+    ('scratch of mono is not tested', 'if len(scratch) < needed:', 'if len(scratch) < needed and f.head == COLOUR:'),
+    ('scratch of colour is zeroed for mono', '[0] * needed + scratch[needed:]',
+     '([0] * (10 * f.block_width * f.block_height) + scratch[10 * f.block_width * f.block_height:])[:len(scratch)]'),
+    ('scratch of mono stays', '[0] * needed + scratch[needed:]', '([0] * needed if f.head == COLOUR else scratch[:needed]) + scratch[needed:]'),
+    ('six zero bytes at each lost pixel of mono', SHOWN,
+     'if all(codes[j] == 1 for j in own[max(0, i // b * b - 4):i + 1]) else 0 for i, byte in enumerate(shown(f, parts))]'),
+    ('four zero bytes at each lost pixel of mono', SHOWN,
+     'if all(codes[j] == 1 for j in own[max(0, i // b * b - 2 * (b == 2)):i + 1]) else 0 for i, byte in enumerate(shown(f, parts))]'),
+    ('one zero byte at each lost pixel of mono', SHOWN,
+     'if codes[k] == 1 or b == 2 and i % 2 else 0 for i, (k, byte) in enumerate(zip(own, shown(f, parts)))]'),
+    ('only a third of the lost pixels of mono', SHOWN,
+     'if codes[k] == 1 or b == 2 and i // 2 % 3 else 0 for i, (k, byte) in enumerate(zip(own, shown(f, parts)))]'),
+    ('lost rows of mono by six bytes a pixel', SHOWN,
+     'if codes[own[min(i * 6 // b, len(own) - 1)]] == 1 else 0 for i, byte in enumerate(shown(f, parts))]'),
+    ('lost segments of mono stay', 'if codes[k] == 1 else 0', 'if codes[k] == 1 or b == 2 else 0'),
+    ('lost segments of mono are 255', 'if codes[k] == 1 else 0', 'if codes[k] == 1 else 255 * (b == 2)'),
+    ('a segment of zeros is not good', 'return 1, fee, stored',
+     "return (1, fee, stored) if f.head == COLOUR or any(expanded(stored)) else (4, fee, b'')"),
+    ('a segment of zeros did not come', 'return 1, fee, stored',
+     "return (1, fee, stored) if f.head == COLOUR or any(expanded(stored)) else (2, 1, b'')"),
+    ('pixels of zeros are not written for mono', 'whole = patched_up(f, codes, parts)\n',
+     'whole = patched_up(f, codes, parts)\n    whole = whole if f.head == COLOUR else [new or old for new, old in zip(whole, output)]\n'),
+    ('L of mono is swapped', '    return [byte ' + SHOWN,
+     '    seen = shown(f, parts)\n    return [seen[i ^ (b == 2)] if codes[k] == 1 else 0 for i, k in enumerate(own)]'),
+    ('mono wants a block behind its directory', '    f = picture(r, page, limits)\n',
+     '    f = picture(r, page, limits)\n    if f.head == MONO:\n        r.part(0, min(len(r.file), f.counts.place + 512))\n'),
 )

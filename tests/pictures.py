@@ -40,6 +40,7 @@ def readings(name, page, file):
 def pixels(name, page, file):
     """The pixels that the model of strict reading has, and the sizes that libtiff's report has too."""
     h, f, stored = strict.inspected(Reading(file, b'', units_for(name)), page, LIMITS)
+    assert h.output == 2 * h.head.channels * h.width * h.height, (name, page)
     return bytes(strict.shown(f, stored)), (h.width, h.height, h.block_width, h.block_height, h.segments, h.output)
 
 def page_lines(name, page, file, vouch):

@@ -90,7 +90,7 @@ def replayed(s, trace):
 def begun(trace):
     messages, ending = listed(trace)
     if not messages:
-        return {0: 'over', 1: 'cut', 2: 'foreign'}[ending]
+        return {0: 'over', 1: 'cut', 2: 'foreign'}.get(ending, 'other')
     call, number, *data = messages[0]
     return 'start %d' % number if call is start else 'block %d of %d' % (number, len(data[0]))
 

@@ -7,12 +7,13 @@ output is looked up by itself, and a handle is right if inspection gives the sam
 code's running sums, parts of buffers and counters can't be repeated here.
 """
 import collections
+import inspect
 import zlib
 
 from common import FILL, TOP, Draw, record_of
-from front import (GARBAGE, LIMITS, NOTE, SIZES, STRIPS, TILES, WIDE, Limits, Reading, Refused, but, directories, limited, patched,
-                   picture, sizes_of, tiff)
-from leaf import CASE1, counted, expanded, good, listed, literal, packets, pixels, run
+from front import (COLOUR, GARBAGE, LIMITS, MONO, NOTE, SIZES, STRIPS, TILES, WIDE, Limits, Reading, Refused, but, directories, head_of,
+                   limited, of_head, patched, picture, sizes_of, tiff, value)
+from leaf import CASE1, CASE14, CASE15, counted, expanded, good, listed, literal, packets, pixels, run
 
 # What inspection is asked for, what is done to its handle or to the limits, and what decode is given: its units, the lengths
 # of both buffers and, where it is not the same one, another file.
@@ -21,15 +22,13 @@ Record = collections.namedtuple('Record', 'tag page limits units field value dec
 # ---- model ----
 
 Handle = collections.namedtuple('Handle', 'width height block_width block_height tiled across segments output big offsets counts'
-                                ' entries page scratch work')
-FIELDS = Handle._fields + tuple('max_' + name for name in Limits._fields)
+                                ' entries page scratch work head')
+NUMBERS = Handle._fields[:-1]
+FIELDS = NUMBERS + tuple('max_' + name for name in Limits._fields) + ('head',)
 
-# Segments (rules 2.12 and 2.13): the value of an array that stands for segment k. Where all fit into the field they stand there.
-def value(r, array, k):
-    size = SIZES[array.kind]
-    if size * array.count <= 4:
-        return r.number(array.field[size * k:size * (k + 1)])
-    return r.number(r.part(r.number(array.field) + size * k, size))
+# What scratch has for each pixel of a block (rule 7.3): a byte of each plane, and the pixel.
+def per_pixel(f):
+    return f.head.planes + f.head.bytes
 
 # Segments (rule 4.1): a strip has those rows of the picture that lie in it, a tile has all of its own.
 def rows(f, k):
@@ -43,13 +42,13 @@ def segment(r, f, limits, k):
     count = value(r, f.counts, k)
     stored = r.part(offset, count)
     area = f.block_width * rows(f, k)
-    if 10 * area > limits.output:
+    if per_pixel(f) * area > limits.output:
         raise Refused(4)
-    fee = count + 20 * area + 1
+    fee = count + 2 * per_pixel(f) * area + 1
     if fee > TOP:
         raise Refused(4)
     r.charge(fee)
-    answer = packets(stored, 0, count, f.block_width, 4 * area)
+    answer = packets(stored, 0, count, f.block_width, f.head.planes * area)
     if answer > 0:
         raise Refused(answer)
     return stored, area, fee
@@ -59,18 +58,19 @@ def inspected(r, page, limits):
     limited(len(r.file), page, limits)
     f = picture(r, page, limits)
     stored, areas, fees = zip(*(segment(r, f, limits, k) for k in range(f.segments)))
-    scratch, work = max(10 * area for area in areas), sum(fees)
+    scratch, work = max(per_pixel(f) * area for area in areas), sum(fees)
     return Handle(f.width, f.height, f.block_width, f.block_height, f.tiled, f.across, f.segments, f.output, f.order == 'big',
-                  f.offsets.place, f.counts.place, f.entries, page, scratch, work), f, stored
+                  f.offsets.place, f.counts.place, f.entries, page, scratch, work, f.head), f, stored
 
 # Pixels (rules 6.5 and 6.6): those of each segment, and where each byte of the picture lies among them.
 def shown(f, stored):
-    segments = [pixels(expanded(part), f.block_width, rows(f, k), [FILL] * (6 * f.block_width * rows(f, k)))[1]
+    b = f.head.bytes
+    segments = [pixels(f.head, expanded(part), f.block_width, rows(f, k), [FILL] * (b * f.block_width * rows(f, k)))[1]
                 for k, part in enumerate(stored)]
     def byte(x, y, c):
-        place = ((y % f.block_height) * f.block_width + x % f.block_width) * 6 + c
+        place = ((y % f.block_height) * f.block_width + x % f.block_width) * b + c
         return segments[y // f.block_height * f.across + x // f.block_width][place]
-    return [byte(x, y, c) for y in range(f.height) for x in range(f.width) for c in range(6)]
+    return [byte(x, y, c) for y in range(f.height) for x in range(f.width) for c in range(b)]
 
 # Strict decode (rules 7.4 and 7.5): the number, 0 where there is none, the units left, output and scratch.
 def decoded(file, limits, handle, units, output, scratch):
@@ -99,7 +99,9 @@ def altered(handle, limits, field, n):
     if field == 0:
         return handle, limits
     name = FIELDS[field - 1]
-    if name in Handle._fields:
+    if name == 'head':
+        return handle._replace(head=head_of(n)), limits
+    if name in NUMBERS:
         return handle._replace(**{name: n == 1 if name in ('tiled', 'big') else n}), limits
     return handle, limits._replace(**{name[4:]: n})
 
@@ -110,7 +112,7 @@ def handle_of(h):
 def line(kind, r):
     if kind == 'bound':
         return '%-16s %s' % (r.tag, work_limit(r.page, r.limits))
-    handle, said = Handle(*(0,) * len(Handle._fields)), ''
+    handle, said = Handle(*(0,) * len(NUMBERS), COLOUR), ''
     if kind != 'forged':
         reading = Reading(r.file, b'', r.units)
         try:
@@ -130,10 +132,10 @@ def line(kind, r):
 
 LOTS = 1000000      # units that suffice for any inspection here
 
-def coded(width, height, seed):
+def coded(width, height, seed, head=COLOUR):
     """Packets of a block: each row of a plane is a literal, a run, or two of these."""
     made = b''
-    for i in range(4 * height):
+    for i in range(head.planes * height):
         row, way = counted(width, 3 * seed + i), (seed + i) % 4 if width > 2 else 0
         if way == 0:
             made += literal(row)
@@ -145,20 +147,20 @@ def coded(width, height, seed):
             made += literal(row[:-1]) + literal(row[-1:])
     return made
 
-def flat(width, height, seed):
+def flat(width, height, seed, head=COLOUR):
     """Packets of a block: each row of a plane is one run."""
-    return b''.join(run(width, (50 * seed + 37 * i) % 256) for i in range(4 * height))
+    return b''.join(run(width, (50 * seed + 37 * i) % 256) for i in range(head.planes * height))
 
-def strips(width, height, high, make=coded, seed=0):
+def strips(width, height, high, make=coded, seed=0, head=COLOUR):
     """The entries of a picture in strips of so many rows, and the packets of each."""
-    parts = [make(width, min(high, height - y), seed + k) for k, y in enumerate(range(0, height, high))]
-    return but(STRIPS, (256, 3, 1, width), (257, 3, 1, height), (278, 3, 1, high)), parts
+    parts = [make(width, min(high, height - y), seed + k, head) for k, y in enumerate(range(0, height, high))]
+    return but(STRIPS, *of_head(head), (256, 3, 1, width), (257, 3, 1, height), (278, 3, 1, high)), parts
 
-def tiles(width, height, make=flat, seed=0, wide=16, high=16):
+def tiles(width, height, make=flat, seed=0, wide=16, high=16, head=COLOUR):
     """The same of a picture in tiles."""
     n = len(range(0, width, wide)) * len(range(0, height, high))
     sides = (256, 3, 1, width), (257, 3, 1, height), (322, 3, 1, wide), (323, 3, 1, high)
-    return but(TILES, *sides), [make(wide, high, seed + k) for k in range(n)]
+    return but(TILES, *of_head(head), *sides), [make(wide, high, seed + k, head) for k in range(n)]
 
 def laid(*pages, big=False, kinds=(4, 4), last=None, after=0):
     """A file of pages: each has a directory, its arrays and its segments behind that, and the array of the tag last behind these,
@@ -261,13 +263,13 @@ STRIP3, STRIP2, TILE2 = strips(3, 5, 2), strips(3, 4, 2, seed=2), tiles(17, 5)
 ORDERS = ('l', False), ('b', True)
 KINDS = (4, 4), (3, 3), (3, 4), (4, 3)
 
-def drawn_block(width, height, seed):
+def drawn_block(width, height, seed, head=COLOUR):
     """Packets of a block that may be wider than a packet is long."""
-    return good(Draw(seed + 1), 4 * width * height, width, (40, 127, 128, 129))
+    return good(Draw(seed + 1), head.planes * width * height, width, (40, 127, 128, 129))
 
-def marked(part):
+def marked(part, head=COLOUR, **rest):
     """The file of two pixels, with the packets of a marked case."""
-    return laid((strips(2, 1, 1)[0], [part]))
+    return laid((strips(2, 1, 1, head=head)[0], [part]), **rest)
 
 CASE13 = strips(2, 2, 1)[0], [CASE1, bytes.fromhex('020101800780038002')]
 
@@ -495,24 +497,24 @@ def packets_refused():
         yield record('2-at-%d-out-%d' % (i, j), with_range(with_part(laid(STRIP3), i, two), j, 4000, 9))
         yield record('out-%d-2-at-%d' % (i, j), with_range(with_part(laid(STRIP3), j, two), i, 4000, 9))
 
-def headed(big, tiled=False, kinds=(3, 3)):
+def headed(big, tiled=False, kinds=(3, 3), head=COLOUR):
     """A picture of two segments, one of which begins with the header: the mark's first byte is a literal's control. Its offset is 0,
     so that a field with both offsets is the other's place if it is taken for one number. The two numbers there are 0 and 257, in
     either byte order, and at these places are good segments too."""
     n, high = b'IM'[big], 16 if tiled else 1
     wide = 80 if tiled else n
-    entries = tiles(100, 3, wide=wide)[0] if tiled else strips(wide, 2, 1)[0]
-    first = tiff([(480, [NOTE], 0)], big)[:n + 1] + (run(wide - n, 9) if tiled else b'') + flat(wide, high, 1)[2:]
-    other = bytes(2) + literal(b'\x01') + run(wide - 1, 7) + flat(wide, high, 2)[2:]
+    entries = tiles(100, 3, wide=wide, head=head)[0] if tiled else strips(wide, 2, 1, head=head)[0]
+    first = tiff([(480, [NOTE], 0)], big)[:n + 1] + (run(wide - n, 9) if tiled else b'') + flat(wide, high, 1, head)[2:]
+    other = bytes(2) + literal(b'\x01') + run(wide - 1, 7) + flat(wide, high, 2, head)[2:]
     turn = -1 if big else 1
     parts, at = [other.ljust(len(first), b'\x00'), first][::turn], [1024, 0][::turn]
     file = placed((entries, parts), at=at, kinds=kinds, directory=480, big=big)
-    return patched(file, 257, flat(wide, high, 3).ljust(len(first), b'\x00'))
+    return patched(file, 257, flat(wide, high, 3, head).ljust(len(first), b'\x00'))
 
-def emptied(big, tiled=False, kinds=(3, 3)):
+def emptied(big, tiled=False, kinds=(3, 3), head=COLOUR):
     """A picture of two segments, one of which is empty, so that a field with both counts is the other's count if it is taken for one
     number. At that place are two counts with which both segments would be good."""
-    entries, parts = TILE2 if tiled else STRIP2
+    entries, parts = tiles(17, 5, head=head) if tiled else strips(3, 4, 2, seed=2, head=head)
     long = [part.ljust(600, b'\x00') if k == big else part for k, part in enumerate(parts)]
     file = placed((entries, long), at=[1024 if k == big else 640 for k in range(2)], kinds=kinds, big=big)
     counts = (len(part).to_bytes(2, 'big' if big else 'little') for part in parts)
@@ -581,12 +583,12 @@ def handles():
     # each field altered, in strips and in tiles; what decode is lent suffices either way
     for name, file, page in (('s', laid(STRIP3), 0), ('t', laid(TILE2, big=True), 0), ('p', laid(strips(1, 1, 1), strips(2, 3, 2)), 1)):
         yield record(name + '-own', file, page=page)
-        for field in Handle._fields:
+        for field in NUMBERS:
             for way, n in (('+', 1), ('-', -1), ('+2^32', 2 ** 32)):
                 if field in ('tiled', 'big') and n != 1 or name != 's' and n == 2 ** 32 or field == 'page' and page + n < 0:
                     continue
                 yield record('%s-%s%s' % (name, brief(field), way), file, page=page, change=(field, n), more=(9, 9, 9))
-    for field in Handle._fields:
+    for field in NUMBERS:
         yield record('zero-' + brief(field), laid(STRIP3, big=True), to=(field, 0), more=(9, 9, 9))
     # a small need does not help
     yield record('no-output', laid(STRIP3), to=('output', 0), more=(0, -90, 0))
@@ -663,7 +665,7 @@ def forged():
                        ('width-0', patched(own, 18, b'\x00')), ('range', own[:-1])):
         yield zero('zeros-' + name, file)
         yield zero('lent-' + name, file, lent=(LOTS, 90, 60))
-    for field, n in inspected(Charged(own), 0, LIMITS)[0]._asdict().items():
+    for field, n in zip(NUMBERS, inspected(Charged(own), 0, LIMITS)[0]):
         yield zero('only-' + brief(field), own, to=(field, n), lent=(LOTS, 90, 60))
     yield zero('zeros-input', own, input=0)
     yield zero('zeros-dirs', own, directories=0)
@@ -713,16 +715,245 @@ def bounds():
         yield bound(name, 0, segments=segments, **values)
         yield bound(name + '-p', 3, segments=segments, **values)
 
-def drawn(draw):
+# Pictures of the monochrome head
+GREY3, GREY2, GREY_TILE2 = strips(3, 5, 2, head=MONO), strips(3, 4, 2, seed=2, head=MONO), tiles(17, 5, head=MONO)
+
+def mono_layouts():
+    # both orders, and arrays of either type: three strips, one, two, and two tiles
+    for s, big in ORDERS:
+        for kinds in KINDS:
+            t = '%d%d%s' % (kinds + (s,))
+            yield record('strips-' + t, laid(GREY3, big=big, kinds=kinds))
+            yield record('strip-' + t, laid(strips(3, 5, 5, seed=1, head=MONO), big=big, kinds=kinds))
+            yield record('two-strips-' + t, laid(GREY2, big=big, kinds=kinds))
+            yield record('tiles-' + t, laid(GREY_TILE2, big=big, kinds=kinds))
+        yield record('tile-' + s, laid(tiles(5, 16, coded, head=MONO), big=big))
+        yield record('edge-tiles-' + s, laid(tiles(17, 17, coded, head=MONO), big=big))
+        # marked cases 14 and 15
+        yield record('mark14-' + s, marked(CASE14, MONO, big=big))
+        yield record('mark15-' + s, marked(CASE15, MONO, big=big))
+    # one pixel, one row, one column, last strips that are full or short by some rows, one row to a strip
+    for width, height, high in ((1, 1, 1), (1, 5, 2), (1, 7, 3), (2, 2, 1), (2, 9, 4), (3, 3, 2), (3, 6, 2), (4, 7, 1), (5, 5, 4),
+                                (7, 1, 9), (8, 8, 8), (9, 10, 3), (127, 2, 1)):
+        yield record('%dx%d-by-%d' % (width, height, high), laid(strips(width, height, high, seed=height, head=MONO), big=width % 2 == 0))
+    for width, height, high in ((128, 1, 1), (129, 2, 2), (130, 3, 2), (300, 1, 1)):
+        yield record('%dx%d-by-%d' % (width, height, high), laid(strips(width, height, high, drawn_block, head=MONO), big=width % 2 == 1))
+    yield record('no-rows', laid((but(GREY3[0], 278), [coded(3, 5, 3, MONO)])))
+    yield record('many-strips', laid(strips(1, 60, 1, head=MONO)))
+    # tiles that are whole, that stick out to the right, below and both, and sides that differ
+    for width, height, wide, high in ((16, 16, 16, 16), (1, 1, 16, 16), (15, 17, 16, 16), (32, 32, 16, 16), (33, 5, 16, 16),
+                                      (5, 33, 16, 16), (33, 17, 32, 16), (17, 33, 16, 32), (40, 3, 48, 16)):
+        yield record('%dx%d-%dx%d' % (width, height, wide, high), laid(tiles(width, height, seed=width, wide=wide, high=high, head=MONO)))
+    yield record('tiles-detailed', laid(tiles(20, 3, coded, wide=16, head=MONO), big=True))
+    # pages of both heads, of which some are alike but for that
+    for s, big in ORDERS:
+        for page in range(5):
+            yield record('mixed-%d-%s' % (page, s), laid(STRIP3, GREY3, GREY_TILE2, TILE2, big=big), page=page, directories=5)
+        for page in range(2):
+            yield record('first-%d-%s' % (page, s), laid(GREY2, STRIP2, big=big, kinds=(3, 3)), page=page)
+    for page in (0, 1, 3):
+        yield record('loop-%d' % page, laid(strips(2, 3, 2, head=MONO), after=8), page=page)
+    # where the parts of a file stand is free
+    yield record('offsets-last', laid(GREY3, last=273))
+    yield record('counts-last', laid(GREY3, last=279, big=True))
+    file = laid(strips(3, 6, 2, flat, head=MONO))
+    ranges_of = [(value_of(file, OFFSETS, k), value_of(file, COUNTS, k)) for k in range(3)]
+    yield record('backwards', with_range(with_range(file, 0, *ranges_of[2]), 2, *ranges_of[0]))
+    yield record('all-the-same', with_range(with_range(file, 0, *ranges_of[1]), 2, *ranges_of[1]))
+    yield record('unknown', laid((GREY3[0] + [NOTE] * 7, GREY3[1])))
+    # slot 8 absent, slots 2 and 18 of four bytes
+    yield record('no-samples', laid((but(GREY3[0], 277), GREY3[1])))
+    yield record('no-samples-t', laid((but(GREY_TILE2[0], 277), GREY_TILE2[1]), big=True))
+    for s, big in ORDERS:
+        yield record('four-' + s, laid((but(GREY3[0], (258, 4, 1, 16), (339, 4, 1, 2)), GREY3[1]), big=big))
+    # no head: colour packets under one that is none, and the other way round
+    yield record('32844-3', laid((but(STRIP3[0], (262, 3, 1, 32844)), STRIP3[1])))
+    yield record('32845-1', laid((but(GREY3[0], (262, 3, 1, 32845)), GREY3[1])))
+    # a picture of zeros, in parts and whole, and the largest numbers
+    zeros = run(3, 0) * 4
+    yield record('zeros', laid((GREY2[0], [zeros, zeros])))
+    yield record('zeros-first', laid((GREY2[0], [zeros, GREY2[1][1]])))
+    yield record('ones', laid((GREY2[0], [run(3, 255) * 4] * 2), big=True))
+    yield record('signs', laid((GREY2[0], [run(3, 128) + run(3, 0) + run(3, 127) + run(3, 255)] * 2)))
+    # control 0 at each place, and packets after the last, of either case
+    for name, part in (('2', CASE14 + b'\x00'), ('3', b'\x83' + CASE14[1:]), ('4', CASE14[:-2]), ('4-one', CASE14[:-1]), ('5', CASE14 + b'\x01\x09'),
+                       ('6', b''), ('first', b'\x00' + CASE14), ('between', CASE14[:2] + b'\x00\x00' + CASE14[2:]), ('colour', CASE1),
+                       ('twice', CASE14 + CASE14), ('half', CASE14[:2]), ('across', b'\x82\x07')):
+        yield record('mark14-' + name, marked(part, MONO))
+    yield record('mark14-in-colour', marked(CASE14))
+    yield record('mark14-2-colour', marked(CASE14 + CASE14))
+
+def mono_ranges():
+    # an array that the end of the file cuts
+    for which, last in ((OFFSETS, 273), (COUNTS, 279)):
+        whole = laid(GREY3, last=last, big=which == COUNTS)
+        for cut in (1, 4, 5, 12):
+            yield record('%s-%d' % (('offset', 'count')[which], cut), whole[:-cut])
+    # segments outside by one, just inside, empty
+    for name, page in (('s', GREY3), ('t', GREY_TILE2)):
+        file = laid(page)
+        n = len(file)
+        for k in range(len(page[1])):
+            offset, count = value_of(file, OFFSETS, k), value_of(file, COUNTS, k)
+            for way, start, size in (('out-1', offset, n - offset + 1), ('end-0', n, 0), ('past-0', n + 1, 0), ('last-2', n - 1, 2),
+                                     ('empty', offset, 0), ('short', offset, count - 1), ('later', offset + 1, count - 1)):
+                if name == 's' or way in ('out-1', 'end-0', 'short'):
+                    yield record('%s%d-%s' % (name, k, way), with_range(file, k, start, size))
+    # 4A against max_output, where that is more than the picture's own bytes; 10A is not asked for
+    single, most, tile = laid(strips(3, 5, 5, head=MONO)), laid(strips(3, 3, 2, head=MONO)), laid(GREY_TILE2)
+    for n in (29, 30, 31, 59, 60, 61, 149):
+        yield record('strip-4A-%d' % n, single, output=n)
+    for n in (17, 18, 23, 24, 25, 59):
+        yield record('strips-4A-%d' % n, most, output=n)
+    for n in (169, 170, 1023, 1024, 1025, 2559):
+        yield record('tiles-4A-%d' % n, tile, output=n)
+    for n in (29, 30):
+        yield record('small-4A-%d' % n, laid(GREY3), output=n)
+    for name, file, n in (('strips', most, 23), ('tiles', tile, 1023)):
+        yield record('%s-4A-out' % name, with_range(file, 0, len(file), 1), output=n)
+        yield record('%s-4A-out-1' % name, with_range(file, 1, len(file), 1), output=n)
+        yield record('%s-4A-base' % name, with_base(file, OFFSETS, 5000), output=n)
+        yield record('%s-4A-count' % name, with_base(file, COUNTS, 5000), output=n)
+        yield record('%s-4A-bad' % name, with_range(file, 0, 8, 2), output=n)
+        yield record('%s-4A-units' % name, file, output=n, units=141)
+        yield record('%s-4A-128' % name, file, output=n, units=138)
+
+def mono_budgets():
+    mono = strips(2, 3, 2, head=MONO)
+    for base in (('strips', laid(GREY3), 0), ('tiles', laid(GREY_TILE2, big=True), 0), ('one', laid(strips(2, 3, 3, head=MONO)), 0),
+                 ('second', laid(strips(1, 2, 2), GREY3), 1), ('colour', laid(mono, strips(1, 2, 2)), 1), ('loop', laid(mono, after=8), 2)):
+        yield from at_each_charge(*base)
+    # the fee comes after the range and before the packets, segment by segment
+    file, heights = laid(GREY3), (2, 2, 1)
+    fees = [len(part) + 24 * height + 1 for part, height in zip(GREY3[1], heights)]
+    for k in range(3):
+        before = 139 + sum(fees[:k])
+        bad, fee = with_part(file, k, b'\xff'), 1 + 24 * heights[k] + 1
+        yield record('bad-less-%d' % k, bad, units=before + fee - 1)
+        yield record('bad-just-%d' % k, bad, units=before + fee)
+        yield record('out-less-%d' % k, with_range(file, k, len(file), 1), units=before)
+        yield record('next-bad-%d' % k, with_part(file, (k + 1) % 3, b'\xff'), units=before + fees[k])
+
+def mono_packets():
+    for name, file, width, heights in (('s', laid(GREY3), 3, (2, 2, 1)), ('t', laid(GREY_TILE2), 16, (16, 16))):
+        for k, height in enumerate(heights):
+            for way, part in wrong_parts(width, 2 * height):
+                if name == 's' or way in ('fine', 'past-lit', 'full-lit', 'full-zero', 'cross-first', 'cross-row', 'left-byte', 'nothing'):
+                    yield record('%s%d-%s' % (name, k, way), with_part(file, k, part))
+            # as many planes as the other head has, one, three, and the rows of one plane after those of the other
+            for planes in (1, 3, 4):
+                yield record('%s%d-planes-%d' % (name, k, planes), with_part(file, k, literal(counted(width, 1)) * (planes * height)))
+    for k in range(3):
+        yield record('colour-%d' % k, with_part(laid(GREY3), k, STRIP3[1][k]))
+        yield record('in-colour-%d' % k, with_part(laid(STRIP3), k, GREY3[1][k]))
+    # a short last tile, a full last strip
+    yield record('short-tile', laid((GREY_TILE2[0], [flat(16, 5, 0, MONO), flat(16, 5, 1, MONO)])))
+    yield record('full-strip', with_part(laid(GREY3), 2, coded(3, 2, 2, MONO)))
+    yield record('short-first', with_part(laid(GREY3), 0, coded(3, 1, 0, MONO)))
+    # the boundary is that of the block's width: not of a row of planes, nor of the picture
+    yield record('stride-6', with_part(laid(GREY3), 1, literal(counted(6, 1)) * 2))
+    yield record('stride-12', with_part(laid(GREY3), 1, literal(counted(12, 1))))
+    yield record('stride-32', with_part(laid(GREY_TILE2), 0, literal(counted(32, 1)) * 16))
+    yield record('stride-17', with_part(laid(GREY_TILE2), 0, literal(counted(17, 1)) * 30 + literal(b'ab')))
+    yield record('stride-8', with_part(laid(GREY_TILE2), 0, literal(counted(8, 1)) * 64))
+    yield record('own-start', with_part(laid(GREY3), 0, literal(b'a') + literal(b'bcd') * 3 + literal(b'ef')))
+    # two segments that are wrong: the first counts
+    one, two = b'\x03', b'\xff\x00'
+    for i, j in ((0, 1), (1, 2)):
+        yield record('1-at-%d-2-at-%d' % (i, j), with_part(with_part(laid(GREY3), i, one), j, two))
+        yield record('2-at-%d-1-at-%d' % (i, j), with_part(with_part(laid(GREY3), i, two), j, one))
+
+def mono_handles():
+    # each field altered, in strips and in tiles; what decode is lent suffices either way
+    second = laid(strips(1, 1, 1), strips(2, 3, 2, head=MONO))
+    for name, file, page in (('s', laid(GREY3), 0), ('t', laid(GREY_TILE2, big=True), 0), ('p', second, 1)):
+        yield record(name + '-own', file, page=page)
+        for field in NUMBERS:
+            for way, n in (('+', 1), ('-', -1)):
+                if field in ('tiled', 'big') and n != 1 or field == 'page' and page + n < 0 or name == 'p' and field != 'page' and n == 1:
+                    continue
+                yield record('%s-%s%s' % (name, brief(field), way), file, page=page, change=(field, n), more=(9, 9, 9))
+    # the head: 1 is mono, and all else is colour
+    for name, file, other in (('mono', laid(GREY3), 0), ('colour', laid(STRIP3), 1), ('mono-t', laid(GREY_TILE2), 0),
+                              ('colour-t', laid(TILE2, big=True), 1)):
+        for n in (0, 1, 2, 255, 2 ** 32 + 1, TOP):
+            yield record('%s-is-%d' % (name, n % 1000), file, to=('head', n), more=(9, 9, 9))
+        yield record(name + '-6', file, to=('head', other), more=(0, -1, -1))
+        yield record(name + '-7', file, to=('head', other), more=(-1, 0, 0))
+    # numbers as the other head has them
+    for name, file, page in (('grey', laid(GREY3), STRIP3), ('many', laid(STRIP3), GREY3)):
+        other = inspected(Charged(laid(page)), 0, LIMITS)[0]
+        for field in ('output', 'scratch', 'work', 'offsets', 'counts'):
+            yield record('%s-%s' % (name, field), file, to=(field, getattr(other, field)), more=(LOTS, 90, 90))
+    # another page, which is like it but for the head
+    for page in (0, 1):
+        yield record('page-%d' % page, laid(STRIP3, GREY3), page=page, to=('page', 1 - page), more=(LOTS, 90, 90))
+
+def mono_decodes():
+    # the limits of decode
+    for name, file, page in (('s', laid(GREY3), 0), ('o', laid(strips(3, 5, 5, head=MONO), STRIP3), 0), ('t', laid(STRIP3, GREY_TILE2), 1)):
+        h, f, stored = inspected(Reading(file, b'', TOP), page, LIMITS)
+        for limit, n in zip(Limits._fields, (len(file), max(h.output, h.scratch), max(h.width, h.height), page + 1, h.entries, h.segments)):
+            for way, m in (('just', n), ('less', n - 1)):
+                yield record('%s-max-%s-%s' % (name, limit[:4], way), file, page=page, to=('max_' + limit, m), more=(9, 9, 9))
+    # another file: of the other head, with other pixels, packets that are wrong, one head's entry changed
+    grey, many = laid(strips(3, 5, 2, flat, head=MONO)), laid(strips(3, 5, 2, flat))
+    yield record('file-colour', grey, other=many, more=(LOTS, 90, 90))
+    yield record('file-mono', many, other=grey, more=(LOTS, 90, 90))
+    yield record('file-tiles', laid(GREY_TILE2), other=laid(TILE2), more=(LOTS, 900, 9000))
+    yield record('file-mono-tiles', laid(TILE2), other=laid(GREY_TILE2), more=(LOTS, 900, 9000))
+    yield record('file-pixels', grey, other=laid(strips(3, 5, 2, flat, seed=9, head=MONO)))
+    yield record('file-zeros', grey, other=laid((GREY3[0], [run(3, 0) * 4] * 2 + [run(3, 0) * 2])))
+    yield record('file-longer', grey, other=grey + b'?')
+    yield record('file-cut', grey, other=grey[:-1])
+    yield record('file-packets', grey, other=grey[:-2] + b'\xff?')
+    yield record('file-order', laid(GREY3), other=laid(GREY3, big=True))
+    entries, parts = strips(3, 5, 2, flat, head=MONO)
+    for tag, n in ((262, 32845), (277, 3), (258, 8), (339, 1)):
+        yield record('file-%d' % tag, grey, other=laid((but(entries, (tag, 3, 1, n)), parts)))
+    yield record('file-samples', grey, other=laid((but(entries, 277), parts)))
+
+def mono_buffers():
+    # buffers and units, one short, more and none at all; bytes behind what is needed stay
+    for name, file in (('s', laid(GREY3)), ('t', laid(GREY_TILE2)), ('b', laid(strips(2, 3, 2, head=MONO), big=True))):
+        for way, n in (('less', -1), ('none', -LOTS), ('more', 1), ('much', 100)):
+            yield record('%s-output-%s' % (name, way), file, more=(0, n, 0))
+            yield record('%s-scratch-%s' % (name, way), file, more=(0, 0, n))
+            yield record('%s-units-%s' % (name, way), file, more=(n, 0, 0))
+            yield record('%s-all-%s' % (name, way), file, more=(n, n, n))
+        yield record(name + '-long', file, more=(7, 1000, 2000))
+        yield record(name + '-6-and-7', file, more=(-1, 9, -1))
+        yield record(name + '-6-and-7-too', file, more=(-1, -1, 9))
+        yield record(name + '-2-6-7', file, to=('head', 0), more=(-1, -1, -1))
+    r = Charged(laid(GREY3))
+    inspected(r, 0, LIMITS)
+    yield record('units-exact', laid(GREY3), units=sum(r.taken))
+    yield record('units-exact-less', laid(GREY3), units=sum(r.taken), more=(-1, 0, 0))
+
+def mono_forged():
+    """Handles of zeros, but for the head or for one number."""
+    own = laid(GREY3)
+    for tag, file, field, n in (('mono-zeros', own, 'head', 0), ('mono-head', own, 'head', 1), ('mono-head-colour', laid(STRIP3), 'head', 1),
+                                ('mono-head-none', b'', 'head', 1), ('mono-head-bad', with_part(own, 2, b''), 'head', 1)):
+        yield Record(tag, 0, LIMITS, 0, FIELDS.index(field) + 1, n, LOTS, 90, 60, file)
+    for field, n in zip(NUMBERS, inspected(Charged(own), 0, LIMITS)[0]):
+        if field in ('width', 'output', 'scratch', 'work'):
+            yield Record('m-only-' + field, 0, LIMITS, 0, FIELDS.index(field) + 1, n, LOTS, 90, 60, own)
+
+def drawn(draw, head=COLOUR):
     """A page: entries and packets."""
     if draw.below(4) == 0:
         long, short = draw.between(1, 36), draw.between(1, 16)
-        entries, parts = tiles(long, short) if draw.below(2) else tiles(short, long)
-        return entries, [good(draw, 4 * 16 * 16, 16, (4, 9, 40, 40, 40)) for _ in parts]
+        entries, parts = tiles(long, short, head=head) if draw.below(2) else tiles(short, long, head=head)
+        return entries, [good(draw, head.planes * 16 * 16, 16, (4, 9, 40, 40, 40)) for _ in parts]
     width, height = draw.between(1, 9), draw.between(1, 9)
     high = draw.of((1, 2, 3, height, 9))
-    entries, parts = strips(width, height, high)
-    return entries, [good(draw, 4 * width * min(high, height - y), width) for y in range(0, height, high)]
+    entries, parts = strips(width, height, high, head=head)
+    return entries, [good(draw, head.planes * width * min(high, height - y), width) for y in range(0, height, high)]
+
+def drawn_pages(draw, heads):
+    """One page or two, of heads that are drawn too where there is more than one."""
+    return [drawn(draw, draw.of(heads) if len(heads) > 1 else heads[0]) for _ in range(draw.of((1, 1, 1, 2)))]
 
 def damaged(draw, file, h):
     """One place changed: a value of an array, a byte of a segment, any byte, or the file's end."""
@@ -737,10 +968,10 @@ def damaged(draw, file, h):
         place = value_of(file, OFFSETS, k, h.page) + draw.below(value_of(file, COUNTS, k, h.page))
     return patched(file, place, [draw.of((file[place] ^ 1 << draw.below(8), draw.below(256), 0, 128))])
 
-def random(name, seed, how_many):
+def random(name, seed, how_many, heads=(COLOUR,)):
     draw = Draw(seed)
     for i in range(how_many):
-        own = [drawn(draw) for _ in range(draw.of((1, 1, 1, 2)))]
+        own = drawn_pages(draw, heads)
         page = draw.below(len(own))
         file = laid(*own, big=draw.below(2) == 1, kinds=draw.of(KINDS), last=draw.of((None, None, 273, 279, 324, 325)))
         r = Charged(file)
@@ -755,8 +986,9 @@ def random(name, seed, how_many):
         whole = sum(r.taken)
         units = draw.of((LOTS, LOTS, LOTS, LOTS, LOTS, whole, whole - 1, sum(r.taken[:-1]), draw.below(whole), whole + draw.below(9)))
         more = draw.of(((0, 0, 0), (0, 0, 0), (3, 20, 5), (-1, 0, 0), (0, -1, 0), (0, 0, -1), (9, 0, 9)))
-        change = (draw.of(Handle._fields), draw.of((1, 2, 16))) if draw.below(4) == 0 else None
-        yield record('%s-%03d' % (name, i), file, page, units, change, more=more, **limits)
+        change = (draw.of(NUMBERS), draw.of((1, 2, 16))) if draw.below(4) == 0 else None
+        to = ('head', draw.below(3)) if len(heads) > 1 and not change and draw.below(8) == 0 else None
+        yield record('%s-%03d' % (name, i), file, page, units, change, to, more=more, **limits)
 
 # In the order in which the program runs them: a file's name, what its records are, and the records.
 def files():
@@ -771,10 +1003,16 @@ def files():
         ('handles.bin', 'strict', handles()),
         ('decodes.bin', 'strict', decodes()),
         ('buffers.bin', 'strict', buffers()),
-        ('forged.bin', 'forged', forged()),
+        ('forged.bin', 'forged', list(forged()) + list(mono_forged())),
         ('bounds.bin', 'bound', bounds()),
         ('random_a.bin', 'strict', random('a', 1, 70)),
-        ('random_b.bin', 'strict', random('b', 2, 70)))]
+        ('random_b.bin', 'strict', random('b', 2, 70)),
+        ('mono_layouts.bin', 'strict', mono_layouts()),
+        ('mono_ranges.bin', 'strict', list(mono_ranges()) + list(mono_budgets())),
+        ('mono_packets.bin', 'strict', mono_packets()),
+        ('mono_handles.bin', 'strict', mono_handles()),
+        ('mono_decodes.bin', 'strict', list(mono_decodes()) + list(mono_buffers())),
+        ('mono_random.bin', 'strict', random('m', 3, 80, (MONO, MONO, COLOUR))))]
 
 def packed(r):
     return record_of(r.tag, (r.page, *r.limits, r.units, r.field, r.value, r.decode_units), (r.output, r.scratch), r.file, r.other)
@@ -784,6 +1022,10 @@ FITS = 'if size * array.count <= 4:'
 FIELD = 'r.number(array.field[size * k:size * (k + 1)])'
 IN_FIELD = FITS + '\n        return ' + FIELD
 PLACE = 'r.number(r.part(r.number(array.field) + size * k, size))'
+NEED = 'f.head.planes * area)\n    if answer'
+EACH = 'f.head.planes + f.head.bytes'
+FEE, OVER = 'fee = count + 2 * per_pixel(f) * area + 1', 'if per_pixel(f) * area > limits.output:'
+MOST = 'scratch, work = max(per_pixel(f) * area for area in areas),'
 VALUES_WRONG = (
     # which values stand in the field
     ('a single value stands elsewhere', FITS, 'if size * array.count <= 4 and array.count > 1:'),
@@ -855,7 +1097,13 @@ VALUES_WRONG = (
      '    r.part(r.number(array.field), size * array.count)\n    return ' + PLACE),
     ('values are cut at the end of the file', PLACE, 'r.number(r.file[r.number(array.field) + size * k:][:size])'),
 )
-WRONG = VALUES_WRONG + (
+VALUE = inspect.getsource(value)
+
+def values_wrong(user, wrong):
+    """Mistakes of the value of an array, which is of tests/front.py: the wrong function stands before the one that uses it."""
+    return tuple((name, user, VALUE.replace(old, new) + user) for name, old, new in wrong)
+
+WRONG = values_wrong('def segment(r, f, limits, k):\n', VALUES_WRONG) + (
     # rows
     ('tiles are as high as the picture', '    if f.tiled:\n        return f.block_height\n',
      '    if f.tiled:\n        return min(f.block_height, f.height)\n'),
@@ -879,50 +1127,50 @@ WRONG = VALUES_WRONG + (
     ('a range outside is 2', '    stored = r.part(offset, count)\n',
      '    if offset + count > len(r.file):\n        raise Refused(2)\n    stored = r.part(offset, count)\n'),
     ('a range outside is charged', '    stored = r.part(offset, count)\n    area = f.block_width * rows(f, k)\n',
-     '    area = f.block_width * rows(f, k)\n    if offset + count > len(r.file):\n        r.charge(count + 20 * area + 1)\n'
+     '    area = f.block_width * rows(f, k)\n    if offset + count > len(r.file):\n        r.charge(count + 2 * per_pixel(f) * area + 1)\n'
      '    stored = r.part(offset, count)\n'),
     ('an empty range is a segment without pixels', '    area = f.block_width * rows(f, k)\n',
      "    area = f.block_width * rows(f, k)\n    if count == 0:\n        return b'', area, 0\n"),
     ('10A before the range',
-     '    stored = r.part(offset, count)\n    area = f.block_width * rows(f, k)\n    if 10 * area > limits.output:\n'
+     '    stored = r.part(offset, count)\n    area = f.block_width * rows(f, k)\n    if per_pixel(f) * area > limits.output:\n'
      '        raise Refused(4)\n',
-     '    area = f.block_width * rows(f, k)\n    if 10 * area > limits.output:\n        raise Refused(4)\n'
+     '    area = f.block_width * rows(f, k)\n    if per_pixel(f) * area > limits.output:\n        raise Refused(4)\n'
      '    stored = r.part(offset, count)\n'),
     ('10A before the entries', '    offset = value(r, f.offsets, k)\n',
-     '    if 10 * f.block_width * rows(f, k) > limits.output:\n        raise Refused(4)\n    offset = value(r, f.offsets, k)\n'),
+     '    if per_pixel(f) * f.block_width * rows(f, k) > limits.output:\n        raise Refused(4)\n    offset = value(r, f.offsets, k)\n'),
     ('10A after the charge',
-     '    if 10 * area > limits.output:\n        raise Refused(4)\n    fee = count + 20 * area + 1\n    if fee > TOP:\n'
+     '    if per_pixel(f) * area > limits.output:\n        raise Refused(4)\n    fee = count + 2 * per_pixel(f) * area + 1\n    if fee > TOP:\n'
      '        raise Refused(4)\n    r.charge(fee)\n',
-     '    fee = count + 20 * area + 1\n    r.charge(fee)\n    if 10 * area > limits.output:\n        raise Refused(4)\n'),
-    ('10A at the limit', 'if 10 * area > limits.output:', 'if 10 * area >= limits.output:'),
-    ('10A one above the limit', 'if 10 * area > limits.output:', 'if 10 * area > limits.output + 1:'),
-    ('10A is not limited', 'if 10 * area > limits.output:', 'if False:'),
-    ('6A is limited', 'if 10 * area > limits.output:', 'if 6 * area > limits.output:'),
-    ('4A is limited', 'if 10 * area > limits.output:', 'if 4 * area > limits.output:'),
-    ('10A above the limit is 6', '10 * area > limits.output:\n        raise Refused(4)',
-     '10 * area > limits.output:\n        raise Refused(6)'),
-    ('10A above the limit is 3', '10 * area > limits.output:\n        raise Refused(4)',
-     '10 * area > limits.output:\n        raise Refused(3)'),
-    ('the fee is one less', 'fee = count + 20 * area + 1', 'fee = count + 20 * area'),
-    ('the fee without the count', 'fee = count + 20 * area + 1', 'fee = 20 * area + 1'),
-    ('the fee by 10A', 'fee = count + 20 * area + 1', 'fee = count + 10 * area + 1'),
-    ('the fee by 21A', 'fee = count + 20 * area + 1', 'fee = count + 21 * area + 1'),
-    ('the fee by twice the count', 'fee = count + 20 * area + 1', 'fee = 2 * count + 20 * area + 1'),
-    ('the fee of a whole block', 'fee = count + 20 * area + 1', 'fee = count + 20 * f.block_width * f.block_height + 1'),
-    ('the fee of what is seen of a tile', 'fee = count + 20 * area + 1', 'fee = count + 20 * min(f.block_width, f.width) * rows(f, k) + 1'),
+     '    fee = count + 2 * per_pixel(f) * area + 1\n    r.charge(fee)\n    if per_pixel(f) * area > limits.output:\n        raise Refused(4)\n'),
+    ('10A at the limit', OVER, OVER.replace('>', '>=')),
+    ('10A one above the limit', OVER, OVER.replace(':', ' + 1:')),
+    ('10A is not limited', OVER, 'if False:'),
+    ('6A is limited', OVER, OVER.replace('per_pixel(f)', 'f.head.bytes')),
+    ('4A is limited', OVER, OVER.replace('per_pixel(f)', 'f.head.planes')),
+    ('10A above the limit is 6', 'per_pixel(f) * area > limits.output:\n        raise Refused(4)',
+     'per_pixel(f) * area > limits.output:\n        raise Refused(6)'),
+    ('10A above the limit is 3', 'per_pixel(f) * area > limits.output:\n        raise Refused(4)',
+     'per_pixel(f) * area > limits.output:\n        raise Refused(3)'),
+    ('the fee is one less', FEE, FEE.replace(' + 1', '')),
+    ('the fee without the count', FEE, FEE.replace('count + ', '')),
+    ('the fee by 10A', FEE, FEE.replace('2 * ', '')),
+    ('the fee by 21A', FEE, FEE.replace(' + 1', ' + area + 1')),
+    ('the fee by twice the count', FEE, FEE.replace('count', '2 * count')),
+    ('the fee of a whole block', FEE, FEE.replace('area', 'f.block_width * f.block_height')),
+    ('the fee of what is seen of a tile', FEE, FEE.replace('area', 'min(f.block_width, f.width) * rows(f, k)')),
     ('the charge after the packets', '    r.charge(fee)\n',
-     '    if packets(stored, 0, count, f.block_width, 4 * area) == 0:\n        r.charge(fee)\n'),
+     '    if packets(stored, 0, count, f.block_width, f.head.planes * area) == 0:\n        r.charge(fee)\n'),
     ('only the first fee is charged', 'r.charge(fee)', 'r.charge(fee if k == 0 else 0)'),
     ('only the last fee is charged', 'r.charge(fee)', 'r.charge(fee if k + 1 == f.segments else 0)'),
-    ('packets are not looked at', 'answer = packets(stored, 0, count, f.block_width, 4 * area)', 'answer = 0'),
+    ('packets are not looked at', 'answer = packets(stored, 0, count, f.block_width, f.head.planes * area)', 'answer = 0'),
     ('packets of the first segment alone', 'if answer > 0:', 'if answer > 0 and k == 0:'),
     ('packets but those of the first segment', 'if answer > 0:', 'if answer > 0 and k > 0:'),
     ('packets but those of the last segment', 'if answer > 0:', 'if answer > 0 and k + 1 < f.segments:'),
-    ('packets need 3A', '4 * area)\n    if answer', '3 * area)\n    if answer'),
-    ('packets need 6A', '4 * area)\n    if answer', '6 * area)\n    if answer'),
-    ('packets need a whole block', '4 * area)\n    if answer', '4 * f.block_width * f.block_height)\n    if answer'),
-    ('packets need what is seen of a tile', '4 * area)\n    if answer', '4 * min(f.block_width, f.width) * rows(f, k))\n    if answer'),
-    ('the stride is a row of planes', 'packets(stored, 0, count, f.block_width,', 'packets(stored, 0, count, 4 * f.block_width,'),
+    ('packets need 3A', NEED, NEED.replace('planes', 'channels')),
+    ('packets need 6A', NEED, NEED.replace('planes', 'bytes')),
+    ('packets need a whole block', NEED, NEED.replace('area', 'f.block_width * f.block_height')),
+    ('packets need what is seen of a tile', NEED, NEED.replace('area', 'min(f.block_width, f.width) * rows(f, k)')),
+    ('the stride is a row of planes', 'packets(stored, 0, count, f.block_width,', 'packets(stored, 0, count, f.head.planes * f.block_width,'),
     ('the stride is half of the width', 'packets(stored, 0, count, f.block_width,',
      'packets(stored, 0, count, max(1, f.block_width // 2),'),
     ("the stride is the picture's width", 'packets(stored, 0, count, f.block_width,', 'packets(stored, 0, count, f.width,'),
@@ -949,17 +1197,17 @@ WRONG = VALUES_WRONG + (
     ('one charge at the end', '    stored, areas, fees = zip',
      '    left, r.left = r.left, TOP\n    charged = [segment(r, f, limits, k)[2] for k in range(f.segments)]\n    r.left = left\n'
      '    r.charge(sum(charged))\n    r.left = left\n    stored, areas, fees = zip'),
-    ('scratch is the sum', 'scratch, work = max(10 * area for area in areas),', 'scratch, work = sum(10 * area for area in areas),'),
-    ('scratch is the last', 'scratch, work = max(10 * area for area in areas),', 'scratch, work = 10 * areas[-1],'),
-    ('scratch is the least', 'scratch, work = max(10 * area for area in areas),', 'scratch, work = min(10 * area for area in areas),'),
-    ('scratch is 4A', 'scratch, work = max(10 * area for area in areas),', 'scratch, work = max(4 * area for area in areas),'),
-    ('scratch is 6A', 'scratch, work = max(10 * area for area in areas),', 'scratch, work = max(6 * area for area in areas),'),
+    ('scratch is the sum', MOST, MOST.replace('max', 'sum')),
+    ('scratch is the last', MOST, 'scratch, work = per_pixel(f) * areas[-1],'),
+    ('scratch is the least', MOST, MOST.replace('max', 'min')),
+    ('scratch is 4A', MOST, MOST.replace('per_pixel(f)', 'f.head.planes')),
+    ('scratch is 6A', MOST, MOST.replace('per_pixel(f)', 'f.head.bytes')),
     ('work has the 128', 'sum(fees)\n', 'sum(fees) + 128\n'),
     ('work is all that is charged', 'sum(fees)\n', 'sum(fees) + 128 + f.entries + 1\n'),
     ('work is the largest fee', 'sum(fees)\n', 'max(fees)\n'),
     ('work is the last fee', 'sum(fees)\n', 'fees[-1]\n'),
-    ('the page is always 0', 'f.entries, page, scratch, work)', 'f.entries, 0, scratch, work)'),
-    ('the page is counted from 1', 'f.entries, page, scratch, work)', 'f.entries, page + 1, scratch, work)'),
+    ('the page is always 0', 'f.entries, page, scratch, work,', 'f.entries, 0, scratch, work,'),
+    ('the page is counted from 1', 'f.entries, page, scratch, work,', 'f.entries, page + 1, scratch, work,'),
     ('no more than eleven entries are counted', 'f.counts.place, f.entries,', 'f.counts.place, min(f.entries, 11),'),
     # pixels
     ('segments column by column', 'segments[y // f.block_height * f.across + x // f.block_width]',
@@ -968,20 +1216,20 @@ WRONG = VALUES_WRONG + (
     ('one column of segments', 'segments[y // f.block_height * f.across + x // f.block_width]', 'segments[y // f.block_height * f.across]'),
     ('segments of a row backwards', 'segments[y // f.block_height * f.across + x // f.block_width]',
      'segments[y // f.block_height * f.across + f.across - 1 - x // f.block_width]'),
-    ("rows of the picture's width", '* f.block_width + x % f.block_width) * 6 + c',
-     '* min(f.width, f.block_width) + x % f.block_width) * 6 + c'),
+    ("rows of the picture's width", '* f.block_width + x % f.block_width) * b + c',
+     '* min(f.width, f.block_width) + x % f.block_width) * b + c'),
     ('only the first row of a segment', '((y % f.block_height) * f.block_width', '(0 * f.block_width'),
-    ('only the first column of a segment', '+ x % f.block_width) * 6 + c', ') * 6 + c'),
-    ("columns from the segment's right", '+ x % f.block_width) * 6 + c', '+ f.block_width - 1 - x % f.block_width) * 6 + c'),
-    ('bytes of a sample swapped', '* 6 + c\n', '* 6 + (c ^ 1)\n'),
-    ('u and v swapped', '* 6 + c\n', '* 6 + (0, 1, 4, 5, 2, 3)[c]\n'),
-    ('planes of a whole segment', 'pixels(expanded(part), f.block_width, rows(f, k),',
-     'pixels(expanded(part), f.block_width * rows(f, k), 1,'),
+    ('only the first column of a segment', '+ x % f.block_width) * b + c', ') * b + c'),
+    ("columns from the segment's right", '+ x % f.block_width) * b + c', '+ f.block_width - 1 - x % f.block_width) * b + c'),
+    ('bytes of a sample swapped', '* b + c\n', '* b + (c ^ 1)\n'),
+    ('u and v swapped', '* b + c\n', '* b + (0, 1, 4, 5, 2, 3)[c]\n'),
+    ('planes of a whole segment', 'pixels(f.head, expanded(part), f.block_width, rows(f, k),',
+     'pixels(f.head, expanded(part), f.block_width * rows(f, k), 1,'),
     ('columns before rows', 'for y in range(f.height) for x in range(f.width) for c',
      'for x in range(f.width) for y in range(f.height) for c'),
     ('the picture from below', 'for y in range(f.height) for x', 'for y in range(f.height)[::-1] for x'),
-    ('tiles with their padding', 'for x in range(f.width) for c in range(6)]',
-     'for x in range(-(-f.width // f.block_width) * f.block_width) for c in range(6)]'),
+    ('tiles with their padding', 'for x in range(f.width) for c in range(b)]',
+     'for x in range(-(-f.width // f.block_width) * f.block_width) for c in range(b)]'),
     ('the last row is left out', 'for y in range(f.height) for x', 'for y in range(max(1, f.height - 1)) for x'),
     ('the last column is left out', 'for x in range(f.width) for c', 'for x in range(max(1, f.width - 1)) for c'),
     ('the first segment for all', 'return segments[y //', 'return segments[0 * y //'),
@@ -1004,7 +1252,7 @@ WRONG = VALUES_WRONG + (
      'if handle != own:\n        return 2, max(0, units - handle.work),'),
     ('a forged handle takes all units', 'if handle != own:\n        return 2, units,', 'if handle != own:\n        return 2, 0,'),
     ('a handle of zeros is empty', '    try:\n        own',
-     '    if not any(handle):\n        return 0, units, output, scratch\n    try:\n        own'),
+     '    if not any(handle[:-1]):\n        return 0, units, output, scratch\n    try:\n        own'),
     ('buffers before the handle', '    try:\n        own',
      '    if len(output) < handle.output or len(scratch) < handle.scratch:\n        return 6, units, output, scratch\n    try:\n'
      '        own'),
@@ -1049,7 +1297,7 @@ WRONG = VALUES_WRONG + (
     ('scratch keeps the last planes', '[0] * handle.scratch + scratch[handle.scratch:]\n',
      '(expanded(stored[-1]) + [0] * handle.scratch)[:handle.scratch] + scratch[handle.scratch:]\n'),
     ('only the planes are zeroed', '[0] * handle.scratch + scratch[handle.scratch:]\n',
-     '[0] * (handle.scratch // 10 * 4) + scratch[handle.scratch // 10 * 4:]\n'),
+     '[0] * (handle.scratch // per_pixel(f) * f.head.planes) + scratch[handle.scratch // per_pixel(f) * f.head.planes:]\n'),
     # the work limit
     ('the bound without the page itself', 'bound = (page + 1) *', 'bound = max(1, page) *'),
     ('the bound without the count of entries', '* (limits.tags + 1) +', '* limits.tags +'),
@@ -1074,6 +1322,76 @@ WRONG = VALUES_WRONG + (
     ('the directories wrap', '(page + 1) * (limits.tags + 1)', '(page + 1) * (limits.tags + 1) % 2 ** 64'),
     ('the next page wraps', '(page + 1) * (limits.tags + 1)', '((page + 1) % 2 ** 64) * (limits.tags + 1)'),
     ('one more tag wraps', '(page + 1) * (limits.tags + 1)', '(page + 1) * ((limits.tags + 1) % 2 ** 64)'),
+    # heads
+    ('scratch and fees of colour for either head', EACH, '10'),
+    ('scratch and fees of mono for either head', EACH, '4'),
+    ('scratch and fees without the planes', EACH, 'f.head.bytes'),
+    ('10A of mono is limited', OVER, OVER.replace('per_pixel(f)', '10')),
+    ('4A of colour is limited', OVER, OVER.replace('per_pixel(f)', '4')),
+    ('2A of mono is limited', OVER, OVER.replace('per_pixel(f)', '(per_pixel(f) if f.head == COLOUR else 2)')),
+    ('6A of mono is limited', OVER, OVER.replace('per_pixel(f)', 'max(6, per_pixel(f))')),
+    ('4A of mono is not limited', OVER, OVER.replace('if', 'if f.head == COLOUR and')),
+    ('4A of mono at the limit', OVER, OVER.replace('> limits.output', '> limits.output - (f.head == MONO)')),
+    ('4A of mono one above the limit', OVER, OVER.replace('> limits.output', '> limits.output + (f.head == MONO)')),
+    ('4A of mono after the charge', '    ' + OVER,
+     '    if f.head == MONO and 4 * area > limits.output:\n        r.charge(count + 8 * area + 1)\n    ' + OVER),
+    ('4A of mono before the range', '    stored = r.part(offset, count)\n',
+     '    if f.head == MONO and 4 * f.block_width * rows(f, k) > limits.output:\n        raise Refused(4)\n    stored = r.part(offset, count)\n'),
+    ('the fee of colour for mono', FEE, FEE.replace('per_pixel(f)', '10')),
+    ('the fee of mono for colour', FEE, FEE.replace('per_pixel(f)', '4')),
+    ('the fee of mono by 4A', FEE, FEE.replace('2 *', '(1 + (f.head == COLOUR)) *')),
+    ('the fee of mono by 2A', FEE, FEE.replace('2 * per_pixel(f)', '(20 if f.head == COLOUR else 2)')),
+    ('the fee of mono by 9A', FEE, FEE.replace('2 * per_pixel(f)', '(20 if f.head == COLOUR else 9)')),
+    ('the fee of mono by 12A', FEE, FEE.replace('2 * per_pixel(f)', '(20 if f.head == COLOUR else 12)')),
+    ('the fee of mono without one', FEE, FEE.replace('+ 1', '+ (f.head == COLOUR)')),
+    ('the fee of mono without the count', FEE, FEE.replace('count', '(f.head == COLOUR) * count')),
+    ('a segment of mono is free', 'r.charge(fee)', 'r.charge(fee if f.head == COLOUR else 0)'),
+    ('mono is charged after its packets', '    r.charge(fee)\n',
+     '    if f.head == COLOUR or packets(stored, 0, count, f.block_width, f.head.planes * area) == 0:\n        r.charge(fee)\n'),
+    ('packets of mono need 4A', NEED, NEED.replace('f.head.planes', '4')),
+    ('packets of mono need A', NEED, NEED.replace('f.head.planes', '(4 if f.head == COLOUR else 1)')),
+    ('packets of mono need 3A', NEED, NEED.replace('f.head.planes', 'max(3, f.head.planes)')),
+    ('packets of colour need 2A', NEED, NEED.replace('f.head.planes', '2')),
+    ('packets of mono need 2A or 4A', '    if answer > 0:\n',
+     '    if f.head == MONO and answer > 0 and packets(stored, 0, count, f.block_width, 4 * area) == 0:\n        answer = 0\n    if answer > 0:\n'),
+    ('packets of mono are not looked at', 'if answer > 0:', 'if answer > 0 and f.head == COLOUR:'),
+    ('the stride of mono is two rows', 'packets(stored, 0, count, f.block_width,',
+     'packets(stored, 0, count, (1 + (f.head == MONO)) * f.block_width,'),
+    ('no stride for mono', 'packets(stored, 0, count, f.block_width,',
+     'packets(stored, 0, count, f.block_width if f.head == COLOUR else TOP,'),
+    ('scratch of colour for mono', MOST, MOST.replace('per_pixel(f)', '10')),
+    ('scratch of mono for colour', MOST, MOST.replace('per_pixel(f)', '4')),
+    ('scratch of mono is 2A', MOST, MOST.replace('per_pixel(f)', '(10 if f.head == COLOUR else 2)')),
+    ('scratch of mono is 6A', MOST, MOST.replace('per_pixel(f)', 'max(6, per_pixel(f))')),
+    ('scratch of mono is 8A', MOST, MOST.replace('per_pixel(f)', 'max(8, per_pixel(f))')),
+    ('every handle is of colour', 'scratch, work, f.head)', 'scratch, work, COLOUR)'),
+    ('every handle is of mono', 'scratch, work, f.head)', 'scratch, work, MONO)'),
+    ('heads of handles swapped', 'scratch, work, f.head)', 'scratch, work, MONO if f.head == COLOUR else COLOUR)'),
+    ('a handle has the head of the first page', '    f = picture(r, page, limits)\n',
+     '    f = picture(r, page, limits)\n    first = Reading(r.file, b\'\', TOP)\n'
+     '    f = f._replace(head=picture(first, 0, limits).head if page == 1 else f.head)\n'),
+    ('mono has six bytes a pixel', '    b = f.head.bytes\n', '    b = 6\n'),
+    ('only every third pixel of mono', '* b + c\n', '* b + c\n        place -= place // b % 3 * b if f.head == MONO else 0\n'),
+    ('bytes of L swapped for mono', '* b + c\n', '* b + (c if f.head == COLOUR else c ^ 1)\n'),
+    ('bytes of L swapped for big-endian mono', '* b + c\n', "* b + (c ^ 1 if f.head == MONO and f.order == 'big' else c)\n"),
+    ('planes of mono from the end', 'pixels(f.head, expanded(part),', 'pixels(f.head, expanded(part)[::-1 if f.head == MONO else 1],'),
+    ('planes of mono of a whole segment', 'pixels(f.head, expanded(part), f.block_width, rows(f, k),',
+     'pixels(f.head, expanded(part), *((f.block_width, rows(f, k)) if f.head == COLOUR else (f.block_width * rows(f, k), 1)),'),
+    ('pixels of mono that are zero stay', 'whole = shown(f, stored)\n',
+     'whole = shown(f, stored)\n    whole = whole if f.head == COLOUR else [new or old for new, old in zip(whole, output)]\n'),
+    ('mono is written over six bytes a pixel', 'whole + output[len(whole):]',
+     'whole + [0] * ((len(output) - len(whole)) if f.head == MONO else 0) + output[len(whole):] * (f.head == COLOUR)'),
+    ('mono zeroes scratch of colour', '[0] * handle.scratch + scratch[handle.scratch:]\n',
+     '([0] * (10 * f.block_width * f.block_height) + scratch[10 * f.block_width * f.block_height:])[:len(scratch)]\n'),
+    ('mono leaves scratch', '[0] * handle.scratch + scratch[handle.scratch:]\n',
+     '[0] * handle.scratch + scratch[handle.scratch:] if f.head == COLOUR else scratch\n'),
+    ('output of mono is tested by six bytes a pixel', 'if len(output) < handle.output:', 'if len(output) < 6 * handle.width * handle.height:'),
+    ('scratch is tested by ten bytes a pixel', 'if len(scratch) < handle.scratch:', 'if len(scratch) < 10 * f.block_width * f.block_height:'),
+    ('scratch is tested by four bytes a pixel', 'if len(scratch) < handle.scratch:', 'if len(scratch) < 4 * f.block_width * f.block_height:'),
+    ('a handle is right for a file of the other head', 'if handle != own:',
+     "if handle != own and not (handle.head != own.head and handle[:7] == own[:7]):"),
+    ('a handle of zeros but for the head is empty', '    try:\n        own',
+     '    if handle.head == MONO and not any(handle[:-1]):\n        return 0, units, output, scratch\n    try:\n        own'),
     # what is written
     ('a refusal gives the units back', "'%-16s refused %d, left %d' % (r.tag, why.args[0], reading.left)",
      "'%-16s refused %d, left %d' % (r.tag, why.args[0], r.units)"),

@@ -1,4 +1,5 @@
-// One field of a handle, or one of the limits, changed: they are counted from 1 in the order in which they stand here, and 0 is none.
+// One field of a handle, or one of the limits, changed: they are counted from 1 in the order in which they stand here, but the head is
+// the last, and 0 is none.
 use handle::Handle;
 use header::Limits;
 use picture::Format;
@@ -30,6 +31,7 @@ fn in_format(f: Format, c: Change) -> Format {
         offsets: number(f.offsets, 10, c),
         counts: number(f.counts, 11, c),
         entries: number(f.entries, 12, c),
+        mono: truth(f.mono, 22, c),
     }
 }
 

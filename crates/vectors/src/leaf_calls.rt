@@ -43,7 +43,7 @@ fn run_packets(call: Call, input: &[u8], output: &mut [u8]) {
 }
 
 fn run_planes(call: Call, input: &[u8], output: &mut [u8]) {
-    put_verdict(luv::convert(input, call.a, call.b, output));
+    put_verdict(luv::convert(call.c == 1, input, call.a, call.b, output));
     show(output);
 }
 

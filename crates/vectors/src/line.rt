@@ -96,5 +96,6 @@ pub fn put_shape(f: Format) {
     put(b", ", f.across);
     put(b" across, ", f.segments);
     put(b" segments, ", f.output);
-    say(b" bytes");
+    put(b" bytes, ", head::channels_of(f.mono));
+    say(b" channels");
 }

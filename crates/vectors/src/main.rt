@@ -79,6 +79,11 @@ fn run_front() {
         b"arrivals arrivals_body arrivals_three random_small random_large",
     );
     run_record_files(Kind::Front(Front::Range), b"front/", b"ranges");
+    run_record_files(
+        Kind::Front(Front::Format),
+        b"front/",
+        b"mono_heads mono_values mono_sizes mono_arrivals mono_random",
+    );
 }
 
 fn run_strict() {
@@ -92,7 +97,7 @@ fn run_strict() {
     run_record_files(
         Kind::Strict(Strict::Reading),
         b"strict/",
-        b"random_a random_b",
+        b"random_a random_b mono_layouts mono_ranges mono_packets mono_handles mono_decodes mono_random",
     );
 }
 
@@ -101,6 +106,11 @@ fn run_patchy() {
         Kind::Patchy,
         b"patchy/",
         b"order rooms entries inline inline_blocks inline_ranges quality metadata single_first single_last stale whole random",
+    );
+    run_record_files(
+        Kind::Patchy,
+        b"patchy/",
+        b"mono_rooms mono_quality mono_blocks mono_pages mono_stale mono_whole mono_random",
     );
 }
 
@@ -148,6 +158,16 @@ fn run_pictures() {
         UNITS,
         b"pictures/control-zero/",
         b"z01_30x6_rps4_l z03_20x17_t16_l",
+    );
+    run_picture_files(
+        UNITS,
+        b"pictures/",
+        b"m01_1x1_zero_l m02_2x1_marked_b m03_31x9_onestrip_grad_l m04_40x30_rps7_neg_b m05_517x5_rps2_runs_l",
+    );
+    run_picture_files(
+        UNITS,
+        b"pictures/",
+        b"m06_33x20_t32x16_noise_b m07_20x17_t16_halves_l m08_50x33_t48x32_neg_l m09_3pages_b",
     );
 }
 

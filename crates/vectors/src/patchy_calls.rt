@@ -16,7 +16,8 @@ fn put_sizes(s: Sizes) {
     line::put_sides(b" ", s.width, s.height);
     line::put_sides(b", blocks ", s.block_width, s.block_height);
     put(b", ", s.segments);
-    say(b" segments");
+    put(b" segments, ", s.channels);
+    say(b" channels");
 }
 
 fn put_reading(reading: Reading) {

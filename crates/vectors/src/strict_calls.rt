@@ -134,6 +134,7 @@ fn no_handle() -> Handle {
             offsets: 0,
             counts: 0,
             entries: 0,
+            mono: false,
         },
         page: 0,
         scratch: 0,
