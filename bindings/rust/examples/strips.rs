@@ -1,6 +1,6 @@
-//! Reports the strips of a camera's picture: `strips FILE [MAP]` reads FILE under the delivery map
-//! that the file MAP holds, or as one that came whole, and prints its sizes, the quality code of
-//! each segment and what it charged.
+//! Reports the strips of a camera's picture, of either head: `strips FILE [MAP]` reads FILE under the
+//! delivery map that the file MAP holds, or as one that came whole, and prints its sizes, the quality
+//! code of each segment and what it charged.
 
 use chelmesut::{read_patchy, work_limit, Budget, Limits, BLOCK_LEN};
 use std::error::Error;
@@ -24,9 +24,10 @@ fn report(file: &[u8], map: &[u8]) -> Result<(), Box<dyn Error>> {
         &mut quality,
     )?;
     println!(
-        "{} x {} pixels in {} segments of {} x {}, {} units",
+        "{} x {} pixels of {} bytes in {} segments of {} x {}, {} units",
         sizes.width,
         sizes.height,
+        sizes.pixel_bytes(),
         sizes.segments,
         sizes.block_width,
         sizes.block_height,

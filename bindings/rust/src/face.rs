@@ -25,7 +25,7 @@ use crate::Limits;
 pub const HANDLE_WORDS: usize = 17;
 
 /// The words of the patchy reading's answer (rule 8.9).
-pub const ANSWER_WORDS: usize = 5;
+pub const ANSWER_WORDS: usize = 6;
 
 /// The words of a receiver (rule 11.9).
 pub const RECEIVER_WORDS: usize = 2;

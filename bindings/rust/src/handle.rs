@@ -1,7 +1,7 @@
 //! The handle of a picture that inspection accepted.
 
 use crate::face::HANDLE_WORDS;
-use crate::{Limits, Refusal};
+use crate::{pixel_bytes, Limits, Refusal};
 
 /// What inspection found of a picture: the 17 numbers of rule 7.2, as the C face has them.
 ///
@@ -46,7 +46,7 @@ impl Handle {
             (handle.directory_entry_count(), limits.max_tags),
             (handle.output_len() as u64, limits.max_output),
             (handle.scratch_len() as u64, limits.max_output),
-            // Scratch has ten bytes for each pixel of a block, so a side is below its length.
+            // Scratch has at least four bytes for each pixel of a block, so a side is below its length.
             (handle.block_width(), limits.max_output),
             (handle.block_height(), limits.max_output),
             (handle.segments(), limits.max_segments),
@@ -77,9 +77,15 @@ impl Handle {
         self.words[1]
     }
 
-    /// Samples of a pixel: 3, which are L, u and v.
+    /// Samples of a pixel: 3, which are L, u and v, or 1 of a monochrome picture, which is L.
     pub const fn channels(&self) -> u64 {
         self.words[2]
+    }
+
+    /// Bytes of a pixel in the output, two for each of its [`channels`](Handle::channels): 6, or 2 of
+    /// a monochrome picture.
+    pub const fn pixel_bytes(&self) -> usize {
+        pixel_bytes(self.channels())
     }
 
     /// Bits of a sample as the file declares them: 16.
@@ -125,15 +131,15 @@ impl Handle {
         }
     }
 
-    /// Bytes of the decoded picture, six for each pixel. At most the `max_output` with which the
-    /// handle was made.
+    /// Bytes of the decoded picture, six for each pixel or two of a monochrome picture. At most the
+    /// `max_output` with which the handle was made.
     pub const fn output_len(&self) -> usize {
         // Nothing is cut off: this crate compiles only where a usize has 64 bits.
         self.words[11] as usize
     }
 
-    /// Bytes of scratch that decode needs, ten for each pixel of a block. At most the `max_output`
-    /// with which the handle was made.
+    /// Bytes of scratch that decode needs, ten for each pixel of a block or four of a monochrome
+    /// picture. At most the `max_output` with which the handle was made.
     pub const fn scratch_len(&self) -> usize {
         self.words[12] as usize
     }
@@ -202,6 +208,7 @@ mod tests {
             h.segments(),
         ];
         assert_eq!(read, words);
+        assert_eq!(h.pixel_bytes(), 204);
         let mut alpha = [0; HANDLE_WORDS];
         assert!(!Handle::inspected(alpha).has_alpha());
         assert_eq!(Handle::inspected(alpha).alpha_mode(), AlphaMode::None);
@@ -249,6 +256,7 @@ mod tests {
     fn the_widest_limits_take_every_word_whole() {
         let words = [u64::MAX; HANDLE_WORDS];
         let stored = Handle::from_words(words, &all(u64::MAX)).unwrap();
+        assert_eq!(stored.pixel_bytes() as u64, u64::MAX);
         assert_eq!(stored.output_len() as u64, u64::MAX);
         assert_eq!(stored.scratch_len() as u64, u64::MAX);
     }

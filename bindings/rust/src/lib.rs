@@ -41,7 +41,7 @@ pub struct Limits {
     /// Bytes of the file.
     pub max_input: u64,
     /// Bytes of the picture, six for each pixel, and bytes of scratch, ten for each pixel of a
-    /// segment.
+    /// segment; of a monochrome picture two and four.
     pub max_output: u64,
     /// Pixels of the picture's width, and of its height.
     pub max_dimension: u64,
@@ -55,8 +55,8 @@ pub struct Limits {
 }
 
 impl Limits {
-    /// Limits for the camera's pictures: 640 by 480 pixels in 60 strips, one picture in a file of at
-    /// most 2 MiB, with at most 32 entries in its directory.
+    /// Limits for the camera's pictures, of either head: 640 by 480 pixels in 60 strips, one picture
+    /// in a file of at most 2 MiB, with at most 32 entries in its directory.
     pub const fn camera() -> Limits {
         Limits {
             max_input: 2 * 1024 * 1024,
@@ -98,7 +98,8 @@ impl Budget {
 #[derive(Clone, Copy, Debug, PartialEq, Eq, Hash)]
 #[non_exhaustive]
 pub struct Sizes {
-    /// Pixels of a row of the picture. The output has `6 width height` bytes.
+    /// Pixels of a row of the picture. The output has `width height` pixels of
+    /// [`pixel_bytes`](Sizes::pixel_bytes) bytes.
     pub width: u64,
     /// Rows of the picture.
     pub height: u64,
@@ -109,6 +110,22 @@ pub struct Sizes {
     /// Segments of the picture, each with its quality byte. They count from the left to the right
     /// and then from the top to the bottom.
     pub segments: u64,
+    /// Samples of a pixel: 3, which are L, u and v, or 1 of a monochrome picture, which is L.
+    pub channels: u64,
+}
+
+impl Sizes {
+    /// Bytes of a pixel in the output, two for each of its [`channels`](Sizes::channels): 6, or 2 of
+    /// a monochrome picture.
+    pub const fn pixel_bytes(&self) -> usize {
+        pixel_bytes(self.channels)
+    }
+}
+
+/// Bytes of a pixel of so many samples. Numbers that no picture has are taken too.
+const fn pixel_bytes(channels: u64) -> usize {
+    // Nothing is cut off: this crate compiles only where a usize has 64 bits.
+    channels.saturating_mul(2) as usize
 }
 
 /// The order of a sample's bytes, which the predictors are told. The calls that read a file find
@@ -178,13 +195,15 @@ pub fn decode(
 /// `map` has a byte for each block of [`BLOCK_LEN`] bytes: 1 for one that came, any other value for
 /// one that did not. A map of length 0 stands for a file that came whole. Bytes that did not come
 /// have no influence, whatever stands in their place. Every segment gets a byte in `quality` (see
-/// [`Quality`]), and the pixels of one that is not good are zero in `output`, which no pixel of a
-/// good one is.
+/// [`Quality`]), and the pixels of one that is not good are zero in `output`. No pixel of a good
+/// segment of a colour picture is. **Of a monochrome picture it can be**, as L = 0 is no light: there
+/// the quality byte alone tells a segment that is dark from one that did not come.
 ///
 /// A success has charged the directories up to the page, 128 units, and for each segment its fee,
 /// or 1 unit if it is [`Missing`](Quality::Missing) or [`Outside`](Quality::Outside). The quality
 /// bytes after the last segment are then 0 and the scratch that was needed, ten bytes for each
-/// pixel of a block, is zeroed; the later bytes of `output` and `scratch` stay.
+/// pixel of a block or four of a monochrome picture, is zeroed; the later bytes of `output` and
+/// `scratch` stay.
 ///
 /// A refusal leaves `output` and `scratch` as they were and zeroes the whole of `quality`.
 pub fn read_patchy(
@@ -210,13 +229,14 @@ pub fn read_patchy(
         quality,
         &mut answer,
     ))?;
-    let [width, height, block_width, block_height, segments] = answer;
+    let [width, height, block_width, block_height, segments, channels] = answer;
     Ok(Sizes {
         width,
         height,
         block_width,
         block_height,
         segments,
+        channels,
     })
 }
 

@@ -4,7 +4,8 @@ use std::error::Error;
 use std::fmt;
 
 /// What the patchy reading says of a segment, by its quality byte (rule 8.6). The pixels of a
-/// segment that is not good are zero in the output.
+/// segment that is not good are zero in the output. Of a monochrome picture those of a good one can
+/// be zero too, so ask this byte and not the pixels (rule 6.7).
 ///
 /// These are all, so a `match` needs no arm for others: a further code would have to be looked at
 /// by everyone who shows a picture.

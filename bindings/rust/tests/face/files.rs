@@ -26,6 +26,52 @@ pub const CASE_1: [u8; 8] = [0x80, 0x07, 0x80, 0x01, 0x80, 0x02, 0x80, 0x03];
 /// One pixel of rule 10.1.
 pub const PIXEL_1: [u8; 6] = [0x01, 0x07, 0xC7, 0x00, 0x17, 0x01];
 
+/// A head of the camera (rule 3.9): what its pages say in tags 262 and 277, the planes of a row, and
+/// the bytes of a pixel.
+#[derive(Clone, Copy, Debug, PartialEq)]
+pub struct Head {
+    pub photometric: u16,
+    pub samples: u16,
+    pub planes: usize,
+    pub pixel: usize,
+}
+
+pub const COLOUR: Head = Head {
+    photometric: 32845,
+    samples: 3,
+    planes: 4,
+    pixel: 6,
+};
+
+pub const MONOCHROME: Head = Head {
+    photometric: 32844,
+    samples: 1,
+    planes: 2,
+    pixel: 2,
+};
+
+/// Both heads in both byte orders.
+pub fn heads_and_orders() -> Vec<(Head, ByteOrder)> {
+    let with_orders = |head| BOTH.map(|order| (head, order));
+    [COLOUR, MONOCHROME]
+        .into_iter()
+        .flat_map(with_orders)
+        .collect()
+}
+
+impl Head {
+    /// The scratch that a block needs.
+    pub fn scratch(&self, width: u64, rows: u64) -> usize {
+        (self.planes + self.pixel) * (width * rows) as usize
+    }
+
+    /// What a segment is charged.
+    pub fn fee(&self, stored: usize, width: u64, rows: u64) -> u64 {
+        let each = if self.samples == 3 { 20 } else { 8 };
+        stored as u64 + each * width * rows + 1
+    }
+}
+
 /// The entries of a directory of strips here, and what it charges.
 pub const ENTRIES: u64 = 10;
 pub const DIRECTORY: u64 = ENTRIES + 1;
@@ -51,6 +97,7 @@ enum Values {
 
 /// The directory of a picture.
 struct Directory {
+    head: Head,
     width: u16,
     height: u16,
     cut: Cut,
@@ -111,6 +158,15 @@ impl Bytes {
         self.put2(0);
     }
 
+    /// An entry with the same value of two bytes for each sample: one alone in the field, or three
+    /// from a place on.
+    fn entry_for_each(&mut self, tag: u16, head: Head, value: u16, place: usize) {
+        match head.samples {
+            1 => self.entry2(tag, value),
+            samples => self.entry4(tag, 3, samples.into(), place),
+        }
+    }
+
     fn entry_of(&mut self, tag: u16, values: &Values) {
         match *values {
             Values::Long(value) => self.entry4(tag, 4, 1, value),
@@ -126,7 +182,8 @@ impl Bytes {
         }
     }
 
-    /// A directory, and behind it the arrays of three, bits and formats.
+    /// A directory, and behind it bits and formats, three each. A monochrome picture has its single
+    /// ones in the entries, and these are not its own.
     fn directory(&mut self, of: &Directory) {
         let entries = match of.cut {
             Cut::Strips { .. } => ENTRIES,
@@ -136,25 +193,25 @@ impl Bytes {
         self.put2(entries as u16);
         self.entry2(256, of.width);
         self.entry2(257, of.height);
-        self.entry4(258, 3, 3, arrays);
+        self.entry_for_each(258, of.head, 16, arrays);
         self.entry2(259, 34676);
-        self.entry2(262, 32845);
+        self.entry2(262, of.head.photometric);
         match of.cut {
             Cut::Strips { rows } => {
                 self.entry_of(273, &of.offsets);
-                self.entry2(277, 3);
+                self.entry2(277, of.head.samples);
                 self.entry2(278, rows);
                 self.entry_of(279, &of.counts);
             }
             Cut::Tiles { width, height } => {
-                self.entry2(277, 3);
+                self.entry2(277, of.head.samples);
                 self.entry2(322, width);
                 self.entry2(323, height);
                 self.entry_of(324, &of.offsets);
                 self.entry_of(325, &of.counts);
             }
         }
-        self.entry4(339, 3, 3, arrays + 6);
+        self.entry_for_each(339, of.head, 2, arrays + 6);
         self.put4(0);
         for value in [16, 16, 16, 2, 2, 2] {
             self.put2(value);
@@ -169,6 +226,7 @@ impl Bytes {
 
 /// A picture in strips. Every strip begins at a multiple of `align`.
 pub struct Picture<'a> {
+    pub head: Head,
     pub order: ByteOrder,
     pub width: u16,
     pub height: u16,
@@ -195,6 +253,7 @@ impl Picture<'_> {
         };
         let mut file = Bytes::new(self.order, 8);
         file.directory(&Directory {
+            head: self.head,
             width: self.width,
             height: self.height,
             cut: Cut::Strips {
@@ -217,12 +276,14 @@ impl Picture<'_> {
     }
 }
 
-/// A picture of two segments, one above the other. Its offsets and counts stand in the fields of
-/// their entries or in arrays. Blocks 0 and 1 have the segments, behind the header and alone; block
-/// 2 has the directory, and block 3 the arrays.
+/// A picture of two segments, one above the other, or of two tiles beside each other. Its offsets and
+/// counts stand in the fields of their entries or in arrays. Blocks 0 and 1 have the segments, behind
+/// the header and alone; block 2 has the directory, and block 3 the arrays.
 pub struct Pair {
+    pub head: Head,
     pub order: ByteOrder,
     pub tiled: bool,
+    pub beside: bool,
     pub inline_offsets: bool,
     pub inline_counts: bool,
     /// What the file says of the segments' places.
@@ -233,16 +294,27 @@ pub struct Pair {
 impl Pair {
     pub const WIDTH: u16 = 16;
 
-    pub fn new(order: ByteOrder, tiled: bool, inline_offsets: bool, inline_counts: bool) -> Pair {
+    pub fn new(
+        head: Head,
+        order: ByteOrder,
+        tiled: bool,
+        inline_offsets: bool,
+        inline_counts: bool,
+    ) -> Pair {
         let mut pair = Pair {
+            head,
             order,
             tiled,
+            beside: false,
             inline_offsets,
             inline_counts,
             offsets: [BLOCK_LEN; 2],
             stored: [Vec::new(), Vec::new()],
         };
-        let segment = |bytes| flat_strip(Pair::WIDTH as u8, pair.rows() as usize, bytes);
+        let segment = |bytes: [u8; 4]| {
+            let bytes = &bytes[..head.planes];
+            flat_strip(Pair::WIDTH as u8, pair.rows() as usize, bytes)
+        };
         pair.stored = [segment([7, 1, 2, 3]), segment([8, 9, 0, 255])];
         let near = pair.near();
         pair.offsets[near] = 8;
@@ -299,8 +371,9 @@ impl Pair {
             file.pad_to(BLOCK_LEN);
         }
         file.directory(&Directory {
-            width,
-            height: 2 * rows,
+            head: self.head,
+            width: if self.beside { 2 * width } else { width },
+            height: if self.beside { rows } else { 2 * rows },
             cut: match self.tiled {
                 true => Cut::Tiles {
                     width,
@@ -326,7 +399,13 @@ impl Pair {
 
 /// A file of two pixels with these packets, such as those of rule 10.1.
 pub fn two_pixels(order: ByteOrder, packets: &[u8]) -> Vec<u8> {
+    two_pixels_of(COLOUR, order, packets)
+}
+
+/// The same of either head.
+pub fn two_pixels_of(head: Head, order: ByteOrder, packets: &[u8]) -> Vec<u8> {
     Picture {
+        head,
         order,
         width: 2,
         height: 1,
@@ -338,19 +417,21 @@ pub fn two_pixels(order: ByteOrder, packets: &[u8]) -> Vec<u8> {
 }
 
 /// A strip whose pixels all have these stored bytes: a run for each plane of each row.
-pub fn flat_strip(width: u8, rows: usize, [l_high, l_low, u, v]: [u8; 4]) -> Vec<u8> {
-    let run = width + 126;
-    [run, l_high, run, l_low, run, u, run, v].repeat(rows)
+pub fn flat_strip(width: u8, rows: usize, planes: &[u8]) -> Vec<u8> {
+    let run = |byte: &u8| [width + 126, *byte];
+    let row: Vec<u8> = planes.iter().flat_map(run).collect();
+    row.repeat(rows)
 }
 
 /// A file of 7 by 5 pixels in strips of 2, 2 and 1 rows.
 pub fn three_strips(order: ByteOrder) -> Vec<u8> {
     let strips = [
-        flat_strip(7, 2, [1, 2, 3, 4]),
-        flat_strip(7, 2, [5, 6, 7, 8]),
-        flat_strip(7, 1, [9, 10, 11, 12]),
+        flat_strip(7, 2, &[1, 2, 3, 4]),
+        flat_strip(7, 2, &[5, 6, 7, 8]),
+        flat_strip(7, 1, &[9, 10, 11, 12]),
     ];
     Picture {
+        head: COLOUR,
         order,
         width: 7,
         height: 5,
@@ -361,9 +442,9 @@ pub fn three_strips(order: ByteOrder) -> Vec<u8> {
     .file()
 }
 
-/// What a segment is charged.
+/// What a segment of a colour picture is charged.
 pub fn fee(stored: usize, width: u64, rows: u64) -> u64 {
-    stored as u64 + 20 * width * rows + 1
+    COLOUR.fee(stored, width, rows)
 }
 
 /// What is left of `granted` units after these charges, taken in order up to the first that cannot

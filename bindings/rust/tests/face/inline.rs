@@ -5,18 +5,20 @@ use crate::files::*;
 use crate::patchy::{numbers, strict, whole_map, Call};
 use chelmesut::{inspect, Budget, Quality, Refusal, BLOCK_LEN};
 
-/// A pixel of each segment: that of rule 10.1, and one with the first and the last of rule 10.8.
+/// A pixel of each segment: that of rule 10.1, and one with the first and the last of rule 10.8. Of a
+/// monochrome picture the first two bytes alone.
 const PIXELS: [[u8; 6]; 2] = [PIXEL_1, [0x09, 0x08, 0x27, 0x00, 0xC4, 0x4F]];
 
 const GOOD: [Quality; 2] = [Quality::Good; 2];
 
-/// Strips and tiles in both byte orders, with none, one and both of offsets and counts in a field.
+/// Strips and tiles of both heads in both byte orders, with none, one and both of offsets and counts
+/// in a field.
 fn pairs() -> Vec<Pair> {
     let mut pairs = Vec::new();
-    for order in BOTH {
+    for (head, order) in heads_and_orders() {
         for tiled in [false, true] {
             for (offsets, counts) in [(false, false), (true, false), (false, true), (true, true)] {
-                pairs.push(Pair::new(order, tiled, offsets, counts));
+                pairs.push(Pair::new(head, order, tiled, offsets, counts));
             }
         }
     }
@@ -25,7 +27,7 @@ fn pairs() -> Vec<Pair> {
 
 /// The bytes of one pixel for each pixel of a segment.
 fn filled(pair: &Pair, pixel: [u8; 6]) -> Vec<u8> {
-    pixel.repeat(usize::from(Pair::WIDTH * pair.rows()))
+    pixel[..pair.head.pixel].repeat(usize::from(Pair::WIDTH * pair.rows()))
 }
 
 /// What directory and profile charge; tiles have an entry more.
@@ -35,7 +37,8 @@ fn front(pair: &Pair) -> u64 {
 
 fn fee_of(pair: &Pair, segment: usize) -> u64 {
     let stored = pair.stored[segment].len();
-    fee(stored, Pair::WIDTH.into(), pair.rows().into())
+    pair.head
+        .fee(stored, Pair::WIDTH.into(), pair.rows().into())
 }
 
 fn read_strictly(pair: &Pair, file: &[u8]) {
@@ -48,12 +51,12 @@ fn read_patchily(pair: &Pair, file: &[u8], map: &[u8], qualities: [Quality; 2]) 
     let (width, rows) = (u64::from(Pair::WIDTH), u64::from(pair.rows()));
     let left = Call {
         output_len: 2 * filled(pair, PIXEL_1).len(),
-        scratch_len: (10 * width * rows) as usize,
+        scratch_len: pair.head.scratch(width, rows),
         quality_len: 2,
         ..Call::of(file, map)
     }
     .read();
-    let sizes = [width, 2 * rows, width, rows, 2];
+    let sizes = [width, 2 * rows, width, rows, 2, pair.head.samples.into()];
     assert_eq!(left.result.map(numbers), Ok(sizes));
     assert_eq!(left.quality, qualities.map(|quality| quality as u8));
     let mut charged = front(pair);

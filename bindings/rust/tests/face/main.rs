@@ -5,6 +5,7 @@ mod camera;
 mod files;
 mod inline;
 mod limits;
+mod mono;
 mod patchy;
 mod predictors;
 mod receiver;

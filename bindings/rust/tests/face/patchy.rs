@@ -16,13 +16,14 @@ const SCRATCH: usize = (10 * WIDTH * ROWS) as usize;
 const AFTER: usize = 5;
 
 /// The answer in the order of rule 8.9.
-pub fn numbers(sizes: Sizes) -> [u64; 5] {
+pub fn numbers(sizes: Sizes) -> [u64; 6] {
     [
         sizes.width,
         sizes.height,
         sizes.block_width,
         sizes.block_height,
         sizes.segments,
+        sizes.channels,
     ]
 }
 
@@ -34,13 +35,14 @@ fn strips() -> Vec<Vec<u8>> {
     let strip = |k: usize| {
         let k8 = k as u8;
         let stored = [k8 + 1, 200 - k8, 10 * k8, 255 - k8];
-        flat_strip(WIDTH as u8, rows_of(k) as usize, stored)
+        flat_strip(WIDTH as u8, rows_of(k) as usize, &stored)
     };
     (0..STRIPS).map(strip).collect()
 }
 
 fn picture(order: ByteOrder, strips: &[Vec<u8>]) -> Vec<u8> {
     Picture {
+        head: COLOUR,
         order,
         width: WIDTH as u16,
         height: HEIGHT as u16,
@@ -132,7 +134,7 @@ impl<'a> Call<'a> {
     }
 
     /// The reading is refused: pixels and scratch stay, and the whole quality buffer is 0.
-    fn refused(&self) -> (Refusal, u64) {
+    pub fn refused(&self) -> (Refusal, u64) {
         let left = self.read();
         assert_eq!(left.output, vec![STALE; self.output_len]);
         assert_eq!(left.scratch, vec![STALE; self.scratch_len]);
@@ -163,7 +165,7 @@ pub fn strict(file: &[u8]) -> (Vec<u8>, u64) {
 
 /// A reading that answers, held to the strict picture and to the quality of each strip.
 fn held_to(left: &Left, pixels: &[u8], qualities: &[Quality; STRIPS]) {
-    let sizes = [WIDTH, HEIGHT, WIDTH, ROWS, STRIPS as u64];
+    let sizes = [WIDTH, HEIGHT, WIDTH, ROWS, STRIPS as u64, 3];
     assert_eq!(left.result.map(numbers), Ok(sizes));
     let mut charged = DIRECTORY + PROFILE;
     for (strip, quality) in qualities.iter().enumerate() {
@@ -198,7 +200,7 @@ fn the_case_of_rule_10_1_is_read_in_both_byte_orders() {
             ..Call::of(&file, &map)
         }
         .read();
-        assert_eq!(left.result.map(numbers), Ok([2, 1, 2, 1, 1]));
+        assert_eq!(left.result.map(numbers), Ok([2, 1, 2, 1, 1, 3]));
         assert_eq!(left.charged, DIRECTORY + PROFILE + 49);
         assert_eq!(left.output, PIXEL_1.repeat(2));
         assert_eq!(left.scratch, [0; 20]);
@@ -241,6 +243,7 @@ fn a_lost_block_costs_its_own_strip_and_nothing_else() {
 fn a_strip_is_missing_if_any_of_its_blocks_is() {
     let stored = [&CASE_1[..], &[0x01; BLOCK_LEN]].concat();
     let file = Picture {
+        head: COLOUR,
         order: ByteOrder::Little,
         width: 2,
         height: 1,

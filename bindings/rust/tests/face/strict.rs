@@ -6,7 +6,7 @@ use chelmesut::{decode, inspect, AlphaMode, Budget, ByteOrder, Handle, Limits, R
 const FEE: u64 = 49;
 
 /// Limits that allow everything.
-const ENDLESS: Limits = Limits {
+pub const ENDLESS: Limits = Limits {
     max_input: u64::MAX,
     max_output: u64::MAX,
     max_dimension: u64::MAX,
@@ -15,7 +15,7 @@ const ENDLESS: Limits = Limits {
     max_segments: u64::MAX,
 };
 
-fn inspected(file: &[u8]) -> Handle {
+pub fn inspected(file: &[u8]) -> Handle {
     inspect(file, 0, &WIDE, &mut Budget { remaining: PLENTY }).unwrap()
 }
 
@@ -26,7 +26,7 @@ fn outcome(file: &[u8], page: u64, limits: &Limits) -> (Result<Handle, Refusal>,
     (result, PLENTY - budget.remaining)
 }
 
-fn refused(file: &[u8], page: u64, limits: &Limits) -> (Refusal, u64) {
+pub fn refused(file: &[u8], page: u64, limits: &Limits) -> (Refusal, u64) {
     let (result, charged) = outcome(file, page, limits);
     (result.unwrap_err(), charged)
 }
@@ -57,7 +57,8 @@ fn the_case_of_rule_10_1_is_read_in_both_byte_orders() {
 fn a_handle_says_what_the_page_has() {
     let handle = inspected(&three_strips(ByteOrder::Big));
     assert_eq!((handle.width(), handle.height()), (7, 5));
-    assert_eq!((handle.channels(), handle.bits_per_sample()), (3, 16));
+    assert_eq!((handle.channels(), handle.pixel_bytes()), (3, 6));
+    assert_eq!(handle.bits_per_sample(), 16);
     assert_eq!(handle.output_bits_per_sample(), 16);
     assert_eq!(handle.planar_configuration(), 1);
     assert_eq!(handle.compression(), 34676);
@@ -165,7 +166,7 @@ fn packets_are_refused_after_their_fee() {
 }
 
 /// Decode is refused, and leaves budget and buffers as they were.
-fn decode_refused(
+pub fn decode_refused(
     file: &[u8],
     handle: &Handle,
     granted: u64,
