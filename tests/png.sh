@@ -39,14 +39,22 @@ data=$root/crates/strips/data
 same 'the camera, without block 44' "$data/camera.tif" "$data/one-block-lost.map"
 
 python3 "$model" pictures "$room" || exit 2
-same 'every code' "$room/codes.tif" "$room/codes.map"
-each_block 'one row' "$room/wide.tif" 40
-each_block 'one column' "$room/tall.tif" 1
+for head in '' -mono; do
+    kind=${head:+, monochrome}
+    same "every code$kind" "$room/codes$head.tif" "$room/codes$head.map"
+    each_block "one row$kind" "$room/wide$head.tif" 40
+    each_block "one column$kind" "$room/tall$head.tif" 1
+done
+bytes "$(blocks_of "$room/full-mono.tif")" 1 >"$room/full-mono.map"
+same 'as many pixels as there is room for' "$room/full-mono.tif" "$room/full-mono.map"
 
 libtiff=$root/crates/vectors/data/pictures
 each_block 'tiles that stand over' "$libtiff/t03_33x47_t32x16_b.tif" 1
 each_block 'tiles with negative values' "$libtiff/t05_50x20_t32x16_neg_l.tif" 1
 each_block 'a short last strip' "$libtiff/s13_40x30_rps7_neg_b.tif" 1
 each_block 'one pixel' "$libtiff/s01_1x1_l.tif" 1
+each_block 'monochrome tiles that stand over' "$libtiff/m06_33x20_t32x16_noise_b.tif" 1
+each_block 'monochrome strips with negative values' "$libtiff/m04_40x30_rps7_neg_b.tif" 1
+each_block 'one dark pixel' "$libtiff/m01_1x1_zero_l.tif" 1
 
 finish

@@ -31,7 +31,7 @@ within() { echo "ends within message $1, which was not taken (1)"; }
 foreign() { echo "stopped after $1 bytes, as a message begins with 1 or 2 and not with $2 (2)"; }
 
 # Two blocks, the second of 170 bytes; and the same filled up to two whole ones.
-tall >tall.tif
+tall colour >tall.tif
 { cat tall.tif && bytes 342 0; } >padded.tif
 bytes 2 1 >both.map
 bytes 2 0 >none.map
@@ -147,7 +147,7 @@ byte 1 >one.map
 { cat tall.trace && start 512 && cat first second; } >trace
 { told trace 5 0 1 0 "$whole" && shown short.tif one.map; } >said
 prints 'a second start that is shorter' trace <said
-two >two.tif
+two colour 16512 20608 >two.tif
 start 520 >trace
 of two.tif 0 >>trace
 { told trace 2 0 0 0 "$whole" && cat <<'END'; } >said
@@ -177,6 +177,42 @@ of two.tif 1 >>trace
   charged   197 units
 END
 prints 'its other block too' trace <said
+two monochrome 0 16512 >dark.tif
+start 516 >trace
+of dark.tif 0 >>trace
+{ told trace 2 0 0 0 "$whole" && cat <<'END'; } >said
+  picture   516 bytes in 2 blocks
+  pixels    1 x 2, monochrome
+  segments  2, each at most 1 x 1
+  blocks    2, of which 1 did not come
+  quality   .2
+        1   good (1, a dot)
+        1   did not come (2)
+        0   outside the file (3)
+        0   packets not accepted (4)
+            two zero bytes can be a pixel here: the quality alone tells what is good
+  charged   153 units
+  written   dark.png: PNG, 1 x 2, 872 bytes, CRC-32 26c7a776
+END
+prints 'a monochrome picture, dark in the block that came' trace dark.png <said
+of dark.tif 1 >>trace
+{ told trace 3 0 0 0 "$whole" && cat <<'END'; } >said
+  picture   516 bytes in 2 blocks
+  pixels    1 x 2, monochrome
+  segments  2, each at most 1 x 1
+  blocks    2, of which 0 did not come
+  quality   ..
+        2   good (1, a dot)
+        0   did not come (2)
+        0   outside the file (3)
+        0   packets not accepted (4)
+            two zero bytes can be a pixel here: the quality alone tells what is good
+  charged   165 units
+  written   dark.pgm: PGM, 1 x 2, 13 bytes, CRC-32 7e2da72b
+END
+prints 'its other block too, and its grey values' trace dark.pgm <said
+{ printf 'P5\n1 2\n255\n' && byte 0 && byte 129; } | cmp -s - dark.pgm
+note $? 'these grey values by their bytes'
 { start 0 && zeros 0 0; } >trace
 { told trace 1 0 1 0 "$whole" && echo '  picture   0 bytes in 0 blocks' && "$strips" empty | tail -n +2; } >said
 prints 'a picture of no bytes' trace <said

@@ -5,8 +5,11 @@ program=strips
 . "$(dirname "$0")/programs.sh"
 
 cp "$root/crates/strips/data/camera.tif" "$root/crates/strips/data/one-block-lost.map" .
-tall >tall.tif
-two >two.tif
+tall colour >tall.tif
+tall monochrome >tall-mono.tif
+two colour 16512 20608 >two.tif
+two monochrome 16512 20608 >two-mono.tif
+two monochrome 0 0 >dark.tif
 bytes 85 0 >all-lost.map
 bytes 84 1 >short.map
 bytes 5000 1 >long.map
@@ -21,7 +24,7 @@ printf 'II+\000\010\000\000\000' >big.tif
 # ---- arguments and files
 prints 'no argument' <<'END'
 usage: strips FILE [MAP [OUT]]
-  FILE  a LogLuv TIFF picture
+  FILE  a LogLuv TIFF picture, in colour or monochrome
   MAP   its delivery map, a byte for each block of 512 bytes, 1 where the block came; without it the picture came whole
   OUT   where to write L as a picture: NAME.png in grey, and in red, blue or yellow what is not good; NAME.pgm in grey alone
 END
@@ -87,14 +90,14 @@ END
 prints 'a BigTIFF file: 3' big.tif <<'END'
 big.tif
   blocks    1, of which 0 did not come
-  refused   3, Unsupported: the picture is not of the kind that is read here, LogLuv (32845) in SGILog packets (34676), three samples of 16 bits, no side above 65535
+  refused   3, Unsupported: the picture is not of a kind that is read here, LogLuv (32845) of three samples or LogL (32844) of one, each of 16 bits, in SGILog packets (34676), no side above 65535
   charged   0 units
 END
 prints 'more entries than are allowed: 4' tags.tif <<'END'
 tags.tif
   blocks    1, of which 0 did not come
   refused   4, Limit: the picture or a directory is larger than this program allows
-            here: at most 2097152 bytes for the picture, six a pixel, and for a segment, ten a pixel; 65536 segments, 4096 entries in a directory
+            here: at most 2097152 bytes for the picture, six a pixel (monochrome two), and for a segment, ten a pixel (monochrome four); 65536 segments, 4096 entries in a directory
   charged   0 units
 END
 prints 'no directory: 5' none.tif <<'END'
@@ -232,6 +235,96 @@ two.tif
         0   packets not accepted (4)
   charged   169 units
 END
+
+# ---- monochrome pictures: with the same L they are shown as those of the colour head, and charged less
+prints 'a monochrome picture with every quality' tall-mono.tif both-came.map tall-mono.pgm <<'END'
+tall-mono.tif
+  pixels    1 x 130, monochrome
+  segments  130, each at most 1 x 1
+  blocks    2, of which 0 did not come
+  quality   .......... .......... .......... .......... .......... ..........
+       60   .......... .....34... .......... .......... .......... ..........
+      120   ..........
+      128   good (1, a dot)
+        0   did not come (2)
+        1   outside the file (3)
+        1   packets not accepted (4)
+            two zero bytes can be a pixel here: the quality alone tells what is good
+  charged   1817 units
+  written   tall-mono.pgm: PGM, 1 x 130, 143 bytes, CRC-32 ae93aade
+END
+cmp -s tall.pgm tall-mono.pgm
+note $? 'its grey values'
+"$run" tall-mono.tif both-came.map tall-mono.png >got 2>&1
+echo '  written   tall-mono.png: PNG, 1 x 130, 2408 bytes, CRC-32 3d0f158a' >want
+tail -n 1 got | cmp -s - want
+note $? "what is said of a monochrome picture's PNG"
+cmp -s tall.png tall-mono.png
+note $? 'its colours'
+prints 'a monochrome picture of which a block did not come' tall-mono.tif second-lost.map tall-mono.png <<'END'
+tall-mono.tif
+  pixels    1 x 130, monochrome
+  segments  130, each at most 1 x 1
+  blocks    2, of which 1 did not come
+  quality   2222222222 2222222222 2222222222 2222222222 2222222222 2222222222
+       60   2222222222 2222222222 2222222222 2222222222 2222222222 2222222222
+      120   2222222222
+        0   good (1, a dot)
+      130   did not come (2)
+        0   outside the file (3)
+        0   packets not accepted (4)
+            two zero bytes can be a pixel here: the quality alone tells what is good
+  charged   269 units
+  written   tall-mono.png: PNG, 1 x 130, 2408 bytes, CRC-32 28d8e4e3
+END
+prints 'a monochrome picture with values in its entries' two-mono.tif both-came.map two-mono.pgm <<'END'
+two-mono.tif
+  pixels    1 x 2, monochrome
+  segments  2, each at most 1 x 1
+  blocks    2, of which 0 did not come
+  quality   ..
+        2   good (1, a dot)
+        0   did not come (2)
+        0   outside the file (3)
+        0   packets not accepted (4)
+            two zero bytes can be a pixel here: the quality alone tells what is good
+  charged   165 units
+  written   two-mono.pgm: PGM, 1 x 2, 13 bytes, CRC-32 67db2ee9
+END
+cmp -s two.pgm two-mono.pgm
+note $? 'the grey values of those'
+# L is 0 in both strips, as if nothing had come.
+for kind in pgm png; do
+    "$run" dark.tif both-came.map "dark.$kind" >got 2>&1
+    mv "dark.$kind" "came.$kind"
+done
+prints 'a dark picture without its second block' dark.tif second-lost.map dark.png <<'END'
+dark.tif
+  pixels    1 x 2, monochrome
+  segments  2, each at most 1 x 1
+  blocks    2, of which 1 did not come
+  quality   .2
+        1   good (1, a dot)
+        1   did not come (2)
+        0   outside the file (3)
+        0   packets not accepted (4)
+            two zero bytes can be a pixel here: the quality alone tells what is good
+  charged   153 units
+  written   dark.png: PNG, 1 x 2, 872 bytes, CRC-32 26c7a776
+END
+colours_of() { # a PNG file of one column and two rows
+    for k in 0 1; do tail -c +$((824 + 12 * k + 11)) "$1" | head -c 1; done
+}
+{ byte 0 && byte 253; } >want
+colours_of dark.png | cmp -s - want
+note $? 'the dark strip is black and the lost one red'
+bytes 2 0 >want
+colours_of came.png | cmp -s - want
+note $? 'where both came both are black'
+"$run" dark.tif second-lost.map dark.pgm >got 2>&1
+{ printf 'P5\n1 2\n255\n' && bytes 2 0; } >want
+cmp -s dark.pgm want && cmp -s came.pgm want
+note $? 'in grey alone nothing tells them apart'
 
 # ---- where nothing can be written
 mkdir folder.png folder.pgm

@@ -1,5 +1,5 @@
-/* Times the reader beside libtiff on the camera's size of picture, and the receiver beside memcpy on the longest file of the
- * camera, and prints tables in Markdown.
+/* Times the reader beside libtiff on the camera's size of picture, of either head, and the receiver beside memcpy on the longest
+ * file of the camera, and prints tables in Markdown.
  *
  *     bench CAMERA MACHINE KIT [REPETITIONS]
  *
@@ -17,7 +17,7 @@
 #include <time.h>
 
 enum { WIDTH = 640, HEIGHT = 480, STRIP_ROWS = 8, STRIPS = 60 };
-enum { OUTPUT = WIDTH * HEIGHT * PIXEL, SCRATCH = 10 * WIDTH * STRIP_ROWS };
+enum { OUTPUT = WIDTH * HEIGHT * 6, SCRATCH = 10 * WIDTH * STRIP_ROWS }; /* of the colour head, which needs more */
 enum { MOST_REPETITIONS = 10001 };
 
 static const double wanted = 0.6, wanted_of_receiver = 0.5;
@@ -29,6 +29,7 @@ enum way { LIBTIFF, STRICT, PATCHY_WHOLE, PATCHY_LOST, COPY, WAYS };
 
 struct content {
     const char *name;
+    struct shape shape;
     struct memory file;
     uint8_t *whole, *lost; /* delivery maps: every block came, and some did not */
     uint32_t good;         /* strips of which every block came, under the second map */
@@ -37,18 +38,18 @@ struct content {
 
 static uint8_t expected[OUTPUT], output[OUTPUT], scratch[SCRATCH], quality[STRIPS];
 
-/* ---- the four contents */
+/* ---- the contents, four of each head */
 
-static struct shape camera_shape(void)
+static struct shape camera_shape(const struct head *head)
 {
-    return (struct shape){.width = WIDTH, .height = HEIGHT, .block_width = WIDTH, .block_height = STRIP_ROWS};
+    return (struct shape){
+        .head = head, .width = WIDTH, .height = HEIGHT, .block_width = WIDTH, .block_height = STRIP_ROWS};
 }
 
-static void read_by_libtiff(struct memory *file, uint8_t *pixels)
+static void read_by_libtiff(struct content *content, uint8_t *pixels)
 {
-    struct shape shape = camera_shape();
-    TIFF *tiff = open_to_read(file);
-    read_pixels(tiff, &shape, pixels);
+    TIFF *tiff = open_to_read(&content->file);
+    read_pixels(tiff, &content->shape, pixels);
     TIFFClose(tiff);
 }
 
@@ -60,7 +61,11 @@ static int noise(struct dice *dice, uint32_t width)
 
 enum kind { RING, RING_WITH_NOISE, NOISE, FLAT, KINDS };
 
-static const char *const kind_name[KINDS] = {"ring", "ring, sensor noise", "noise", "flat"};
+enum { HEADS = 2, CONTENTS = HEADS * KINDS };
+
+static const char *const content_name[CONTENTS] = {
+    "ring",             "ring, sensor noise",             "noise",             "flat",
+    "monochrome: ring", "monochrome: ring, sensor noise", "monochrome: noise", "monochrome: flat"};
 
 /* What the ring's sample becomes. The sensor's noise is of some steps of L (256 of them are a factor of two in light) and of less
  * than one step of u and v as they are stored, which is 80 here. */
@@ -78,12 +83,12 @@ static int16_t sample_of(struct dice *dice, enum kind kind, int channel, int16_t
 static void make_file(struct content *content, enum kind kind, const int16_t *ring)
 {
     struct dice dice = {kind};
-    struct shape shape = camera_shape();
-    int16_t *samples = lend(OUTPUT);
+    uint32_t each = content->shape.head->samples;
+    int16_t *samples = lend(pixel_bytes(&content->shape));
     TIFF *tiff = open_to_write(&content->file, false);
-    for (size_t i = 0; i < OUTPUT / sizeof *samples; i++)
-        samples[i] = sample_of(&dice, kind, (int)(i % 3), ring[i]);
-    write_page(tiff, &shape, samples);
+    for (size_t i = 0; i < (size_t)WIDTH * HEIGHT * each; i++)
+        samples[i] = sample_of(&dice, kind, (int)(i % each), ring[i / each * 3 + i % each]);
+    write_page(tiff, &content->shape, samples);
     TIFFClose(tiff);
     free(samples);
 }
@@ -144,25 +149,25 @@ static void read_by(int way, void *by)
 {
     struct content *content = by;
     switch (way) {
-    case LIBTIFF: read_by_libtiff(&content->file, output); break;
+    case LIBTIFF: read_by_libtiff(content, output); break;
     case STRICT: read_strictly(&content->file); break;
     case PATCHY_WHOLE: read_patchily(&content->file, content->whole); break;
     case PATCHY_LOST: read_patchily(&content->file, content->lost); break;
-    default: memcpy(output, expected, sizeof output);
+    default: memcpy(output, expected, pixel_bytes(&content->shape));
     }
 }
 
 /* Every strip shows libtiff's pixels, or zero where it did not come. */
 static void compare_pixels(struct content *content, enum way way)
 {
-    enum { STRIP = OUTPUT / STRIPS };
-    static const uint8_t blank[STRIP];
+    static const uint8_t blank[OUTPUT / STRIPS];
+    size_t size = pixel_bytes(&content->shape) / STRIPS;
     memset(output, 0xa5, sizeof output);
     memset(quality, CHELMESUT_QUALITY_GOOD, sizeof quality);
     read_by(way, content);
     for (int strip = 0; strip < STRIPS; strip++) {
-        if (memcmp(output + strip * STRIP, quality[strip] == CHELMESUT_QUALITY_GOOD ? expected + strip * STRIP : blank,
-                   STRIP) != 0)
+        size_t place = (size_t)strip * size;
+        if (memcmp(output + place, quality[strip] == CHELMESUT_QUALITY_GOOD ? expected + place : blank, size) != 0)
             give_up("bench: the pixels of strip %d of '%s' are not libtiff's", strip, content->name);
         if (way == PATCHY_LOST)
             content->good += quality[strip] == CHELMESUT_QUALITY_GOOD;
@@ -207,7 +212,7 @@ static void time_ways(void (*by)(int way, void *what), void *what, int ways, siz
 
 static void time_content(struct content *content, size_t repetitions)
 {
-    read_by_libtiff(&content->file, expected);
+    read_by_libtiff(content, expected);
     for (enum way way = LIBTIFF; way < WAYS; way++)
         compare_pixels(content, way);
     time_ways(read_by, content, WAYS, repetitions, content->median);
@@ -329,7 +334,7 @@ static double ratio(const struct content *content, enum way way)
 /* Megabytes of output in a second. */
 static double speed(const struct content *content, enum way way)
 {
-    return OUTPUT / 1e3 / content->median[way];
+    return (double)pixel_bytes(&content->shape) / 1e3 / content->median[way];
 }
 
 /* On x86-64 the kit's archive is linked, elsewhere what tools/archive makes of the same bitcode. */
@@ -355,7 +360,7 @@ static void print_times(const struct content *contents)
     printf("| 640 x 480, times in ms | file, bytes | libtiff | inspect + decode | patchy, all came | patchy, 5%% lost "
            "| strips then good | memcpy |\n");
     printf("|---|---:|---:|---:|---:|---:|---:|---:|\n");
-    for (const struct content *content = contents; content < contents + KINDS; content++)
+    for (const struct content *content = contents; content < contents + CONTENTS; content++)
         printf("| %s | %zu | %.3f | %.3f | %.3f | %.3f | %u of %d | %.3f |\n", content->name, content->file.length,
                content->median[LIBTIFF], content->median[STRICT], content->median[PATCHY_WHOLE],
                content->median[PATCHY_LOST], content->good, STRIPS, content->median[COPY]);
@@ -366,7 +371,7 @@ static void print_speeds(const struct content *contents)
     printf("\n| libtiff's time / ours; MB/s of pixels | inspect + decode | patchy, all came | libtiff, MB/s "
            "| inspect + decode, MB/s | patchy, MB/s |\n");
     printf("|---|---:|---:|---:|---:|---:|\n");
-    for (const struct content *content = contents; content < contents + KINDS; content++)
+    for (const struct content *content = contents; content < contents + CONTENTS; content++)
         printf("| %s | %.2f | %.2f | %.0f | %.0f | %.0f |\n", content->name, ratio(content, STRICT),
                ratio(content, PATCHY_WHOLE), speed(content, LIBTIFF), speed(content, STRICT), speed(content, PATCHY_WHOLE));
 }
@@ -375,7 +380,7 @@ static void print_speeds(const struct content *contents)
 static double least_ratio(const struct content *contents)
 {
     double least = ratio(contents, STRICT);
-    for (const struct content *content = contents; content < contents + KINDS; content++)
+    for (const struct content *content = contents; content < contents + CONTENTS; content++)
         for (enum way way = STRICT; way <= PATCHY_WHOLE; way++)
             if (least > ratio(content, way))
                 least = ratio(content, way);
@@ -420,21 +425,25 @@ static bool enough(double least, double bound)
 
 int main(int arguments, char **argument)
 {
-    static struct content contents[KINDS];
+    static struct content contents[CONTENTS];
     static struct sending sendings[ORDERS];
     static int16_t ring[OUTPUT / sizeof(int16_t)];
     size_t repetitions = arguments > 4 ? strtoull(argument[4], NULL, 10) : 201;
     bool reads_fast, receives_fast;
     if (arguments < 4 || repetitions < 1 || repetitions > MOST_REPETITIONS)
         give_up("usage: bench CAMERA MACHINE KIT [REPETITIONS, 1 to %d]", MOST_REPETITIONS);
-    read_file(&contents[RING].file, argument[1]);
-    read_by_libtiff(&contents[RING].file, (uint8_t *)ring);
-    for (enum kind kind = RING; kind < KINDS; kind++) {
-        contents[kind].name = kind_name[kind];
-        if (kind != RING)
-            make_file(&contents[kind], kind, ring);
-        make_maps(&contents[kind]);
-        time_content(&contents[kind], repetitions);
+    for (int i = 0; i < CONTENTS; i++) {
+        struct content *content = &contents[i];
+        content->name = content_name[i];
+        content->shape = camera_shape(i < KINDS ? &colour : &monochrome);
+        if (i == RING) {
+            read_file(&content->file, argument[1]);
+            read_by_libtiff(content, (uint8_t *)ring);
+        } else {
+            make_file(content, (enum kind)(i % KINDS), ring);
+        }
+        make_maps(content);
+        time_content(content, repetitions);
     }
     make_sent();
     for (int i = 0; i < ORDERS; i++)

@@ -1,5 +1,6 @@
 /* Compares the reader with libtiff on pictures that libtiff makes of random shapes and contents: every pixel, every word of the
  * handle and the answer, every unit charged, every quality byte, and every byte of a lent buffer that is to stay or to be zero.
+ * Each page is of one of the two heads, so that files have pages of both; L as libtiff reads it is held to what was drawn, too.
  * Half of the files with lost blocks come by way of the receiver, which must have made of the messages what was lost and sent.
  * Where a page has two segments, its offsets and counts are often put into the fields of their entries, as two shorts each,
  * before libtiff reads its file back: it finds them there, and does not write them so itself.
@@ -30,6 +31,7 @@ enum { MOST_PAGES = 3, TAIL = 64, NEAR = 1 << 20, LONG_RUN = 1000 };
 
 struct page {
     struct shape shape; /* as libtiff reads it back, with the rows of a strip at most the page's */
+    int16_t *samples;   /* as they were drawn */
     uint8_t *pixels;    /* by libtiff */
     uint32_t segments;
     uint64_t *offsets, *counts; /* of each segment's stored bytes, by libtiff */
@@ -50,6 +52,7 @@ struct picture {
 static struct {
     uint64_t pages, pixels, patchy, good, missing, refused, received;
     uint64_t paired, places, lost_places;
+    uint64_t monochrome, unsaid, mixed, dark; /* dark: good segments that show nothing but zeros, as those do that did not come */
 } sum;
 
 /* ---- saying what differs */
@@ -83,9 +86,10 @@ _Noreturn static void differ(const char *words, ...)
     fflush(stdout);
     fprintf(stderr,
             "\ncompare: DIFFERENT: seed %" PRIu64
-            ", page %u of %u, %u x %u, %s of %u x %u, %s-endian, %s, to be answered with %" PRIu64 ": ",
-            now.picture->seed, now.page, now.picture->pages, shape->width, shape->height, shape->tiled ? "tiles" : "strips",
-            shape->block_width, shape->block_height, now.picture->big_endian ? "big" : "little", now.reading, now.number);
+            ", page %u of %u, %s, %u x %u, %s of %u x %u, %s-endian, %s, to be answered with %" PRIu64 ": ",
+            now.picture->seed, now.page, now.picture->pages, shape->head->name, shape->width, shape->height,
+            shape->tiled ? "tiles" : "strips", shape->block_width, shape->block_height,
+            now.picture->big_endian ? "big" : "little", now.reading, now.number);
     va_start(values, words);
     vfprintf(stderr, words, values);
     va_end(values);
@@ -111,10 +115,10 @@ static uint32_t run_length(struct dice *dice)
     return lengths[below(dice, sizeof lengths)];
 }
 
-/* One of three samples of each pixel: flat, sloping, noisy a little or wholly, or in runs. */
+/* One of the samples of each pixel: flat, sloping, noisy a little or wholly, zero with some spots, or in runs. */
 static void draw(struct dice *dice, const struct shape *shape, int16_t *samples, int32_t least, int32_t most)
 {
-    uint32_t kind = below(dice, 6), left = 0, span = (uint32_t)(most - least + 1);
+    uint32_t kind = below(dice, 7), left = 0, span = (uint32_t)(most - least + 1), spots = 1 + below(dice, 5000);
     int32_t ground = least + (int32_t)below(dice, span), value = ground;
     int32_t slope_x = (int32_t)below(dice, 200) - 100, slope_y = (int32_t)below(dice, 200) - 100;
     for (uint32_t y = 0; y < shape->height; y++)
@@ -125,6 +129,7 @@ static void draw(struct dice *dice, const struct shape *shape, int16_t *samples,
             case 2: value = ground + (int32_t)below(dice, 32); break;
             case 3: value = least + (int32_t)below(dice, span); break;
             case 4: value = one_in(dice, 40) ? least + (int32_t)below(dice, span) : ground; break;
+            case 5: value = one_in(dice, spots) ? least + (int32_t)below(dice, span) : 0; break;
             default:
                 if (left == 0) {
                     left = run_length(dice);
@@ -132,7 +137,8 @@ static void draw(struct dice *dice, const struct shape *shape, int16_t *samples,
                 }
                 left--;
             }
-            samples[3 * ((size_t)y * shape->width + x)] = (int16_t)(value < least ? least : value > most ? most : value);
+            samples[shape->head->samples * ((size_t)y * shape->width + x)] =
+                (int16_t)(value < least ? least : value > most ? most : value);
         }
 }
 
@@ -148,6 +154,8 @@ static struct shape some_shape(struct dice *dice)
 {
     struct shape shape;
     uint32_t kind = below(dice, 20);
+    shape.head = one_in(dice, 2) ? &monochrome : &colour;
+    shape.samples_unsaid = shape.head == &monochrome && one_in(dice, 3);
     if (kind < 8) {
         shape.width = between(dice, 1, 40);
         shape.height = between(dice, 1, 40);
@@ -202,16 +210,15 @@ static void write_picture(struct dice *dice, struct picture *picture)
 {
     TIFF *tiff = open_to_write(&picture->file, picture->big_endian);
     for (uint32_t p = 0; p < picture->pages; p++) {
-        struct shape *shape = &picture->page[p].shape;
-        int16_t *samples;
+        struct page *page = &picture->page[p];
+        struct shape *shape = &page->shape;
         *shape = some_shape(dice);
-        samples = lend(pixel_bytes(shape));
-        draw(dice, shape, samples, INT16_MIN, INT16_MAX);
-        draw(dice, shape, samples + 1, 0, 20479);
-        draw(dice, shape, samples + 2, 0, 20479);
+        page->samples = lend(pixel_bytes(shape));
+        draw(dice, shape, page->samples, INT16_MIN, INT16_MAX);
+        for (uint32_t i = 1; i < shape->head->samples; i++)
+            draw(dice, shape, page->samples + i, 0, 20479);
         set_other_tags(dice, tiff);
-        write_page(tiff, shape, samples);
-        free(samples);
+        write_page(tiff, shape, page->samples);
     }
     TIFFClose(tiff);
     for (uint32_t p = 0; p < picture->pages; p++) {
@@ -350,7 +357,20 @@ static uint32_t rows_in(const struct page *page, uint32_t segment)
 
 static uint64_t fee_of(const struct page *page, uint32_t segment)
 {
-    return page->counts[segment] + 20 * (uint64_t)page->shape.block_width * rows_in(page, segment) + 1;
+    return fee_for(page->shape.head, page->counts[segment], (uint64_t)page->shape.block_width * rows_in(page, segment));
+}
+
+/* L is copied (rule 6.2), by libtiff as well. */
+static void holds_what_was_drawn(const struct page *page)
+{
+    const struct head *head = page->shape.head;
+    for (size_t i = 0; i < (size_t)page->shape.width * page->shape.height; i++) {
+        uint16_t drawn = (uint16_t)page->samples[head->samples * i];
+        const uint8_t *read = page->pixels + head->pixel * i;
+        if (read[0] != (drawn & 255) || read[1] != drawn >> 8)
+            give_up("libtiff reads %02x %02x for L of pixel %zu of a %s page, which was drawn as %u", read[0], read[1], i,
+                    head->name, drawn);
+    }
 }
 
 /* Reads the page that libtiff has at hand. */
@@ -362,6 +382,7 @@ static void take_page(TIFF *tiff, struct page *page)
         page->shape.block_height = page->shape.height;
     page->pixels = lend(pixel_bytes(&page->shape));
     read_pixels(tiff, &page->shape, page->pixels);
+    holds_what_was_drawn(page);
     page->offsets = lend(page->segments * sizeof *page->offsets);
     page->counts = lend(page->segments * sizeof *page->counts);
     page->fees = 0;
@@ -397,6 +418,7 @@ static void make_picture(struct picture *picture, uint64_t seed)
 static void drop_picture(struct picture *picture)
 {
     for (uint32_t p = 0; p < picture->pages; p++) {
+        free(picture->page[p].samples);
         free(picture->page[p].pixels);
         free(picture->page[p].offsets);
         free(picture->page[p].counts);
@@ -417,7 +439,7 @@ static uint64_t front_units(const struct picture *picture, uint32_t page)
 
 static uint64_t scratch_of(const struct page *page)
 {
-    return 10 * (uint64_t)page->shape.block_width * page->shape.block_height;
+    return scratch_for(page->shape.head, (uint64_t)page->shape.block_width * page->shape.block_height);
 }
 
 /* Limits that let the page pass, some of them just so. */
@@ -479,7 +501,7 @@ static bool front_came(const struct picture *picture, uint32_t page, uint64_t *u
     }
     *units += 128;
     for (uint32_t t = 0; t < 2; t++)
-        for (uint32_t i = 0; i < 3; i++)
+        for (uint32_t i = 0; i < picture->page[page].shape.head->samples; i++)
             if (!value_came(picture, &picture->page[page], samples_tags[t], i))
                 return false;
     return true;
@@ -532,25 +554,50 @@ static void zero_from(const struct buffer *buffer, size_t start, size_t end)
             differ("byte %zu of %s is %u, expected 0", i, buffer->name, buffer->bytes[i]);
 }
 
+/* The bytes of a pixel in hex. */
+struct hex {
+    char text[2 * MOST_PIXEL + 1];
+};
+
+static struct hex hex_of(const struct head *head, const uint8_t *pixel)
+{
+    struct hex hex = {""};
+    for (uint32_t i = 0; i < head->pixel; i++)
+        snprintf(hex.text + 2 * i, 3, "%02x", pixel[i]);
+    return hex;
+}
+
+static const uint8_t nothing[MOST_PIXEL];
+
 /* The pixels: libtiff's, or zero where the pixel's segment is not good. */
 static void pixels_are(const struct page *page, const uint8_t *output, const uint8_t *codes)
 {
-    static const uint8_t nothing[PIXEL];
     const struct shape *shape = &page->shape;
-    uint32_t across = (shape->width - 1) / shape->block_width + 1;
+    uint32_t across = (shape->width - 1) / shape->block_width + 1, pixel = shape->head->pixel;
     for (uint32_t y = 0; y < shape->height; y++)
         for (uint32_t x = 0; x < shape->width; x++) {
-            size_t at = PIXEL * ((size_t)y * shape->width + x);
+            size_t at = pixel * ((size_t)y * shape->width + x);
             uint32_t segment = y / shape->block_height * across + x / shape->block_width;
             const uint8_t *ours = output + at,
                           *expected = codes[segment] == CHELMESUT_QUALITY_GOOD ? page->pixels + at : nothing;
-            if (memcmp(ours, expected, PIXEL) != 0)
-                differ("pixel (%u, %u) of segment %u, which has quality %u, is %02x %02x %02x %02x %02x %02x, expected %02x "
-                       "%02x %02x %02x %02x %02x",
-                       x, y, segment, codes[segment], ours[0], ours[1], ours[2], ours[3], ours[4], ours[5], expected[0],
-                       expected[1], expected[2], expected[3], expected[4], expected[5]);
+            if (memcmp(ours, expected, pixel) != 0)
+                differ("pixel (%u, %u) of segment %u, which has quality %u, is %s, expected %s", x, y, segment, codes[segment],
+                       hex_of(shape->head, ours).text, hex_of(shape->head, expected).text);
         }
     sum.pixels += (uint64_t)shape->width * shape->height;
+}
+
+/* Whether a segment, as libtiff reads it, shows nothing but zeros, as one does that is not good (rule 6.7). */
+static bool is_dark(const struct page *page, uint32_t segment)
+{
+    const struct shape *shape = &page->shape;
+    uint32_t across = (shape->width - 1) / shape->block_width + 1, pixel = shape->head->pixel;
+    uint32_t top = segment / across * shape->block_height, left = segment % across * shape->block_width;
+    for (uint32_t y = top; y < shape->height && y - top < shape->block_height; y++)
+        for (uint32_t x = left; x < shape->width && x - left < shape->block_width; x++)
+            if (memcmp(page->pixels + pixel * ((size_t)y * shape->width + x), nothing, pixel) != 0)
+                return false;
+    return true;
 }
 
 /* ---- strict reading */
@@ -599,7 +646,7 @@ static void inspect_page(struct dice *dice, const struct picture *picture, const
     uint64_t budget = work + spare;
     const uint64_t expected[CHELMESUT_HANDLE_WORDS] = {shape->width,
                                                        shape->height,
-                                                       3,
+                                                       shape->head->samples,
                                                        16,
                                                        16,
                                                        1,
@@ -649,6 +696,11 @@ static void decode_all(struct dice *dice, const struct picture *picture, const s
     now.reading = "decode of a forged handle";
     memcpy(forged, handle, sizeof forged);
     forged[below(dice, CHELMESUT_HANDLE_WORDS)] += 1 + below(dice, 3);
+    decode_page(picture, limits, forged, page->fees, &output, &scratch, CHELMESUT_INVALID, page->fees);
+
+    now.reading = "decode of a handle with the channels of the other head";
+    memcpy(forged, handle, sizeof forged);
+    forged[CHELMESUT_CHANNELS] = page->shape.head == &colour ? monochrome.samples : colour.samples;
     decode_page(picture, limits, forged, page->fees, &output, &scratch, CHELMESUT_INVALID, page->fees);
 
     now.reading = "decode with short output";
@@ -757,8 +809,8 @@ static void read_patchily(struct dice *dice, const struct picture *picture, cons
 {
     const struct page *page = &picture->page[now.page];
     const struct shape *shape = &page->shape;
-    const uint64_t expected[CHELMESUT_ANSWER_WORDS] = {shape->width, shape->height, shape->block_width, shape->block_height,
-                                                       page->segments};
+    const uint64_t expected[CHELMESUT_ANSWER_WORDS] = {shape->width,        shape->height,  shape->block_width,
+                                                       shape->block_height, page->segments, shape->head->samples};
     uint64_t answer[CHELMESUT_ANSWER_WORDS + GUARD], front, charges = 0, spare = below(dice, 1000);
     uint8_t *codes;
     struct lent lent;
@@ -773,6 +825,7 @@ static void read_patchily(struct dice *dice, const struct picture *picture, cons
         codes[k] = code_of(picture, page, k);
         charges += codes[k] == CHELMESUT_QUALITY_GOOD ? fee_of(page, k) : 1;
         sum.good += codes[k] == CHELMESUT_QUALITY_GOOD;
+        sum.dark += codes[k] == CHELMESUT_QUALITY_GOOD && is_dark(page, k);
         sum.missing += codes[k] == CHELMESUT_QUALITY_MISSING;
     }
     lent = lend_buffers(dice, page);
@@ -820,7 +873,7 @@ static void some_map(struct dice *dice, const struct picture *picture, uint8_t *
     let_come(map, 0, 8);
     for (uint32_t p = 0; p <= now.page; p++)
         let_come(map, picture->page[p].directory, 6 + 12 * (uint64_t)picture->page[p].entries);
-    for (uint32_t i = 0; i < 3; i++) {
+    for (uint32_t i = 0; i < page->shape.head->samples; i++) {
         let_come(map, value_place(picture, page, TIFFTAG_BITSPERSAMPLE, i, &size), 2);
         let_come(map, value_place(picture, page, TIFFTAG_SAMPLEFORMAT, i, &size), 2);
     }
@@ -1029,11 +1082,20 @@ static void ask_for_too_much(struct dice *dice, const struct picture *picture)
     patchy_refused(dice, picture, picture->pages, &limits, spare, NONE_SHORT, CHELMESUT_LIMIT, spare);
 }
 
+static void count_page(const struct picture *picture, const struct page *page)
+{
+    uint64_t fields[MOST_PAIRS];
+    sum.pages++;
+    sum.paired += paired_fields(&picture->file, page->directory, fields) > 0;
+    sum.monochrome += page->shape.head == &monochrome;
+    sum.unsaid += entry_of(&picture->file, page->directory, TIFFTAG_SAMPLESPERPIXEL) == 0;
+    sum.mixed += page > picture->page && page->shape.head != page[-1].shape.head;
+}
+
 static void compare_picture(uint64_t seed)
 {
     struct dice dice = {~seed};
     struct picture picture;
-    uint64_t fields[MOST_PAIRS];
     make_picture(&picture, seed);
     now.picture = &picture;
     now.file = &picture.file;
@@ -1044,8 +1106,7 @@ static void compare_picture(uint64_t seed)
         now.page = p;
         read_strictly(&dice, &picture, &limits);
         read_every_map(&dice, &picture, &limits);
-        sum.pages++;
-        sum.paired += paired_fields(&picture.file, picture.page[p].directory, fields) > 0;
+        count_page(&picture, &picture.page[p]);
     }
     now.map = picture.file.bytes;
     ask_for_too_much(&dice, &picture);
@@ -1087,6 +1148,13 @@ static const char *libtiff_version(void)
     return word ? word + 1 : line;
 }
 
+/* A long run must have had what it is for. */
+static void must_have_had(uint64_t times, const char *what)
+{
+    if (times == 0)
+        give_up("compare: %s: this run shows less than it should", what);
+}
+
 int main(int arguments, char **argument)
 {
     uint64_t count = arguments > 1 ? number_in(argument[1]) : 5000, seed = arguments > 2 ? number_in(argument[2]) : 1;
@@ -1094,15 +1162,23 @@ int main(int arguments, char **argument)
         compare_picture(seed + i);
         show_progress(i + 1, count);
     }
-    if (count >= LONG_RUN && sum.lost_places == 0)
-        give_up("compare: no page had inline shorts whose field, as a place, was lost: this run shows less than it should");
+    if (count >= LONG_RUN) {
+        must_have_had(sum.lost_places, "no page had inline shorts whose field, as a place, was lost");
+        must_have_had(sum.pages - sum.monochrome, "no page was of the colour head");
+        must_have_had(sum.monochrome, "no page was of the monochrome head");
+        must_have_had(sum.unsaid, "no page was without its number of samples");
+        must_have_had(sum.mixed, "no file had pages of both heads");
+        must_have_had(sum.dark, "no good segment showed zeros alone");
+    }
     printf("compare: no difference from libtiff %s: %" PRIu64 " pictures from seed %" PRIu64 ", %" PRIu64 " pages, %" PRIu64
            " pixels; %" PRIu64 " patchy calls, in which %" PRIu64 " segments were good and %" PRIu64 " lost, and %" PRIu64
            " calls lacked what comes before the segments; %" PRIu64
            " files with lost blocks came by way of the receiver; %" PRIu64
            " pages with inline shorts, whose field was as a place inside the file in %" PRIu64
-           " patchy calls, and lost in %" PRIu64 "\n",
+           " patchy calls, and lost in %" PRIu64 "; %" PRIu64 " pages were monochrome, %" PRIu64
+           " of them without tag 277; %" PRIu64 " pages came after one of the other head; %" PRIu64
+           " times a good segment showed zeros alone\n",
            libtiff_version(), count, seed, sum.pages, sum.pixels, sum.patchy, sum.good, sum.missing, sum.refused,
-           sum.received, sum.paired, sum.places, sum.lost_places);
+           sum.received, sum.paired, sum.places, sum.lost_places, sum.monochrome, sum.unsaid, sum.mixed, sum.dark);
     return 0;
 }

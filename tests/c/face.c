@@ -3,8 +3,8 @@
  * those of the archive, 64 bits wide, is written out below a second time, and numbers above 2^32 are passed. It is C and C++
  * at once; tests/c/face.sh compiles it as both.
  *
- * The picture is two pixels wide, each strip of one row has the packets of rule 10.1. Its directory follows itself, so that it
- * is every page; strip 1, where there is one, begins with block 1. */
+ * The picture is two pixels wide and of either head. Each strip of one row has the packets of rule 10.1, or of rule 10.14 where
+ * it is monochrome. Its directory follows itself, so that it is every page; strip 1, where there is one, begins with block 1. */
 #include "chelmesut.h"
 #include <stdio.h>
 #include <stdlib.h>
@@ -20,7 +20,7 @@ uint64_t chelmesut_decode(const uint8_t *, size_t, uint64_t, uint64_t, uint64_t,
                           const uint64_t[17], uint64_t *, uint8_t *, size_t, uint8_t *, size_t);
 uint64_t chelmesut_read_patchy(const uint8_t *, size_t, const uint8_t *, size_t, uint64_t, uint64_t, uint64_t, uint64_t,
                                uint64_t, uint64_t, uint64_t, uint64_t *, uint8_t *, size_t, uint8_t *, size_t, uint8_t *,
-                               size_t, uint64_t[5]);
+                               size_t, uint64_t[6]);
 uint64_t chelmesut_work_limit(uint64_t, uint64_t, uint64_t, uint64_t, uint64_t, uint64_t, uint64_t, uint64_t *);
 uint64_t chelmesut_receive_start(uint8_t *, size_t, uint8_t *, size_t, uint64_t[2], uint64_t);
 uint64_t chelmesut_receive_block(uint8_t *, size_t, uint8_t *, size_t, uint64_t[2], uint64_t, const uint8_t *, size_t);
@@ -33,20 +33,31 @@ uint64_t chelmesut_predictor3(const uint8_t *, size_t, uint64_t, uint64_t, uint6
 }
 #endif
 
-enum {
-    WAS = 0xa5,
-    GUARD = 8,
-    ENTRIES = 10,
-    DIRECTORY = ENTRIES + 1,
-    PROFILE = 128,
-    FEE = 49,
-    FRONT = 4 * DIRECTORY + PROFILE
-};
-enum { OUTPUT = 12, SCRATCH = 20 }; /* of a picture of one strip */
-enum { PAGE = 3, TWO_STRIPS = CHELMESUT_BLOCK + 8, ROOM = 2048 };
+enum { WAS = 0xa5, GUARD = 8, ENTRIES = 10, DIRECTORY = ENTRIES + 1, PROFILE = 128, FRONT = 4 * DIRECTORY + PROFILE };
+enum { PAGE = 3, ROOM = 2048 };
+enum { MOST_STORED = 8, MOST_OUTPUT = 12, MOST_SCRATCH = 20 };
 
-static const uint8_t packets[8] = {0x80, 0x07, 0x80, 0x01, 0x80, 0x02, 0x80, 0x03};
-static const uint8_t pixels[OUTPUT] = {0x01, 0x07, 0xc7, 0x00, 0x17, 0x01, 0x01, 0x07, 0xc7, 0x00, 0x17, 0x01};
+/* A head's picture of one strip: tags 262 and 277, the packets and the pixels that they stand for, and what is needed and
+ * charged. */
+struct head {
+    uint32_t photometric, channels;
+    size_t stored, output, scratch;
+    uint64_t fee;
+    uint8_t packets[MOST_STORED], pixels[MOST_OUTPUT];
+};
+
+static const struct head colour = {32845,
+                                   3,
+                                   8,
+                                   12,
+                                   20,
+                                   49,
+                                   {0x80, 0x07, 0x80, 0x01, 0x80, 0x02, 0x80, 0x03},
+                                   {0x01, 0x07, 0xc7, 0x00, 0x17, 0x01, 0x01, 0x07, 0xc7, 0x00, 0x17, 0x01}};
+static const struct head monochrome = {32844, 1, 4, 4, 8, 21, {0x80, 0x07, 0x80, 0x01}, {0x01, 0x07, 0x01, 0x07}};
+
+/* That of rule 10.15: every pixel has the bytes of one that is not shown. */
+static const struct head dark = {32844, 1, 4, 4, 8, 21, {0x80, 0x00, 0x80, 0x00}, {0x00, 0x00, 0x00, 0x00}};
 
 /* In 32 bits it would be 0. */
 static const uint64_t wide = (uint64_t)1 << 32;
@@ -86,10 +97,16 @@ struct file {
     size_t length;
 };
 
-static void put(struct file *file, uint64_t value, size_t size)
+static void set(struct file *file, size_t at, uint64_t value, size_t size)
 {
     for (size_t i = 0; i < size; i++)
-        file->bytes[file->length++] = (uint8_t)(value >> (8 * i));
+        file->bytes[at + i] = (uint8_t)(value >> (8 * i));
+}
+
+static void put(struct file *file, uint64_t value, size_t size)
+{
+    set(file, file->length, value, size);
+    file->length += size;
 }
 
 static void put_entry(struct file *file, uint32_t tag, uint32_t type, uint32_t count, uint32_t value)
@@ -101,25 +118,37 @@ static void put_entry(struct file *file, uint32_t tag, uint32_t type, uint32_t c
 }
 
 enum { BEHIND_DIRECTORY = 8 + 2 + 12 * ENTRIES + 4, DEPTHS = BEHIND_DIRECTORY, KINDS = DEPTHS + 6 };
-enum { STORED_BYTES = 8, OFFSETS = KINDS + 6, COUNTS = OFFSETS + 8, STORED = COUNTS + 8, ONE_STRIP = STORED + STORED_BYTES };
+enum { OFFSETS = KINDS + 6, COUNTS = OFFSETS + 8, STORED = COUNTS + 8 };
+enum { ENTRY_OF_PHOTOMETRIC = 8 + 2 + 4 * 12, ENTRY_OF_SAMPLES = 8 + 2 + 6 * 12 }; /* the places of tags 262 and 277 */
 
-/* With one strip its offset and count are in the entries. */
-static void make_file(struct file *file, uint32_t strips)
+static size_t one_strip(const struct head *head)
 {
+    return STORED + head->stored;
+}
+
+static size_t two_strips(const struct head *head)
+{
+    return CHELMESUT_BLOCK + head->stored;
+}
+
+/* With one strip its offset and count are in the entries, and with one channel its depth and kind. */
+static void make_file(const struct head *head, struct file *file, uint32_t strips)
+{
+    bool alone = head->channels == 1;
     memset(file, 0, sizeof *file);
     put(file, 0x002a4949, 4);
     put(file, 8, 4);
     put(file, ENTRIES, 2);
     put_entry(file, 256, 3, 1, 2);
     put_entry(file, 257, 3, 1, strips);
-    put_entry(file, 258, 3, 3, DEPTHS);
+    put_entry(file, 258, 3, head->channels, alone ? 16 : DEPTHS);
     put_entry(file, 259, 3, 1, 34676);
-    put_entry(file, 262, 3, 1, 32845);
+    put_entry(file, 262, 3, 1, head->photometric);
     put_entry(file, 273, 4, strips, strips == 1 ? STORED : OFFSETS);
-    put_entry(file, 277, 3, 1, 3);
+    put_entry(file, 277, 3, 1, head->channels);
     put_entry(file, 278, 3, 1, 1);
-    put_entry(file, 279, 4, strips, strips == 1 ? STORED_BYTES : COUNTS);
-    put_entry(file, 339, 3, 3, KINDS);
+    put_entry(file, 279, 4, strips, strips == 1 ? (uint32_t)head->stored : (uint32_t)COUNTS);
+    put_entry(file, 339, 3, head->channels, alone ? 2 : KINDS);
     put(file, 8, 4);
     for (int i = 0; i < 3; i++)
         put(file, 16, 2);
@@ -127,13 +156,13 @@ static void make_file(struct file *file, uint32_t strips)
         put(file, 2, 2);
     put(file, STORED, 4);
     put(file, CHELMESUT_BLOCK, 4);
-    put(file, STORED_BYTES, 4);
-    put(file, STORED_BYTES, 4);
-    memcpy(file->bytes + STORED, packets, sizeof packets);
-    file->length = ONE_STRIP;
+    put(file, head->stored, 4);
+    put(file, head->stored, 4);
+    memcpy(file->bytes + STORED, head->packets, head->stored);
+    file->length = one_strip(head);
     if (strips == 2) {
-        memcpy(file->bytes + CHELMESUT_BLOCK, packets, sizeof packets);
-        file->length = TWO_STRIPS;
+        memcpy(file->bytes + CHELMESUT_BLOCK, head->packets, head->stored);
+        file->length = two_strips(head);
     }
 }
 
@@ -154,7 +183,9 @@ static void names(void)
     for (int i = 0; i < 5; i++)
         same("a quality", (uint64_t)qualities[i], (uint64_t)i);
     same("the words of a handle", CHELMESUT_HANDLE_WORDS, 17);
-    same("the words of an answer", CHELMESUT_ANSWER_WORDS, 5);
+    same("the words of an answer", CHELMESUT_ANSWER_WORDS, 6);
+    same("the channels among the words of a handle", CHELMESUT_CHANNELS, 2);
+    same("the channels among the words of an answer", CHELMESUT_A_CHANNELS, 5);
     same("the words of a receiver", CHELMESUT_RECEIVER_WORDS, 2);
     same("a block", CHELMESUT_BLOCK, 512);
     snprintf(version, sizeof version, "%d.%d.%d", CHELMESUT_VERSION_MAJOR, CHELMESUT_VERSION_MINOR, CHELMESUT_VERSION_PATCH);
@@ -165,7 +196,16 @@ static void names(void)
 
 /* The least limits under which page 3 of the one strip is read: no two are equal. */
 enum { LIMITS = 6 };
-static const uint64_t least[LIMITS] = {ONE_STRIP, SCRATCH, 2, 4, ENTRIES, 1};
+
+struct limits {
+    uint64_t limit[LIMITS];
+};
+
+static struct limits least_of(const struct head *head)
+{
+    struct limits least = {{one_strip(head), head->scratch, 2, 4, ENTRIES, 1}};
+    return least;
+}
 
 static uint64_t inspect(const struct file *file, size_t length, uint64_t page, const uint64_t *limit, uint64_t *budget,
                         uint64_t *handle)
@@ -186,49 +226,74 @@ static void inspect_refused(const char *what, const struct file *file, size_t le
         same("a word of a handle after a refusal", handle[i], 0xfeed + (uint64_t)i);
 }
 
-static void inspection(void)
+/* Two limits stand before all else; the others are met behind the directories, or behind the profile's charge. */
+static const uint64_t numbers[LIMITS] = {CHELMESUT_LIMIT, CHELMESUT_LIMIT, CHELMESUT_UNSUPPORTED,
+                                         CHELMESUT_LIMIT, CHELMESUT_LIMIT, CHELMESUT_LIMIT};
+static const uint64_t charged[LIMITS] = {0, FRONT, FRONT, 0, 0, FRONT};
+
+static void inspection(const struct head *head)
 {
-    /* Two limits stand before all else; the others are met behind the directories, or behind the profile's charge. */
-    static const uint64_t numbers[LIMITS] = {CHELMESUT_LIMIT, CHELMESUT_LIMIT, CHELMESUT_UNSUPPORTED,
-                                             CHELMESUT_LIMIT, CHELMESUT_LIMIT, CHELMESUT_LIMIT};
-    static const uint64_t charged[LIMITS] = {0, FRONT, FRONT, 0, 0, FRONT};
-    static const uint64_t expected[CHELMESUT_HANDLE_WORDS] = {2, 1, 3,      16,      16,  1, 34676, PAGE, ENTRIES,
-                                                              0, 0, OUTPUT, SCRATCH, FEE, 2, 1,     1};
-    uint64_t handle[CHELMESUT_HANDLE_WORDS + GUARD], budget = 1000, limit[LIMITS];
+    const uint64_t expected[CHELMESUT_HANDLE_WORDS] = {
+        2, 1, head->channels, 16, 16, 1, 34676, PAGE, ENTRIES, 0, 0, head->output, head->scratch, head->fee, 2, 1, 1};
+    const struct limits least = least_of(head);
+    uint64_t handle[CHELMESUT_HANDLE_WORDS + GUARD], budget = 1000;
+    struct limits limits;
     struct file file, other;
-    make_file(&file, 1);
-    same("inspection", inspect(&file, file.length, PAGE, least, &budget, handle), CHELMESUT_OK);
-    same("what inspection leaves", budget, 1000 - FRONT - FEE);
+    make_file(head, &file, 1);
+    same("inspection", inspect(&file, file.length, PAGE, least.limit, &budget, handle), CHELMESUT_OK);
+    same("what inspection leaves", budget, 1000 - FRONT - head->fee);
     for (int i = 0; i < CHELMESUT_HANDLE_WORDS + GUARD; i++)
         same("a word of a handle", handle[i], i < CHELMESUT_HANDLE_WORDS ? expected[i] : 0xfeed + (uint64_t)i);
     for (int i = 0; i < LIMITS; i++) {
-        memcpy(limit, least, sizeof limit);
-        limit[i]--;
-        inspect_refused("inspection with one limit lower", &file, file.length, PAGE, limit, 1000, numbers[i], charged[i]);
+        limits = least;
+        limits.limit[i]--;
+        inspect_refused("inspection with one limit lower", &file, file.length, PAGE, limits.limit, 1000, numbers[i],
+                        charged[i]);
     }
     for (int i = 0; i < LIMITS; i++)
-        limit[i] = wide;
-    budget = wide + FRONT + FEE;
-    same("inspection with wide limits", inspect(&file, file.length, PAGE, limit, &budget, handle), CHELMESUT_OK);
+        limits.limit[i] = wide;
+    budget = wide + FRONT + head->fee;
+    same("inspection with wide limits", inspect(&file, file.length, PAGE, limits.limit, &budget, handle), CHELMESUT_OK);
     same("what inspection leaves", budget, wide);
-    inspect_refused("inspection of a late page", &file, file.length, wide + PAGE, least, 1000, CHELMESUT_LIMIT, 0);
-    inspect_refused("inspection of the page after the last allowed", &file, file.length, PAGE + 1, least, 1000,
+    inspect_refused("inspection of a late page", &file, file.length, wide + PAGE, least.limit, 1000, CHELMESUT_LIMIT, 0);
+    inspect_refused("inspection of the page after the last allowed", &file, file.length, PAGE + 1, least.limit, 1000,
                     CHELMESUT_LIMIT, 0);
-    inspect_refused("inspection of a short file", &file, file.length - 1, PAGE, least, 1000, CHELMESUT_TRUNCATED, FRONT);
-    inspect_refused("inspection with a unit too few", &file, file.length, PAGE, least, FRONT + FEE - 1, CHELMESUT_BUDGET,
+    inspect_refused("inspection of a short file", &file, file.length - 1, PAGE, least.limit, 1000, CHELMESUT_TRUNCATED,
                     FRONT);
+    inspect_refused("inspection with a unit too few", &file, file.length, PAGE, least.limit, FRONT + head->fee - 1,
+                    CHELMESUT_BUDGET, FRONT);
     other = file;
     other.bytes[STORED] = 0x83;
-    inspect_refused("inspection of a long run", &other, file.length, PAGE, least, 1000, CHELMESUT_INVALID, FRONT + FEE);
+    inspect_refused("inspection of a long run", &other, file.length, PAGE, least.limit, 1000, CHELMESUT_INVALID,
+                    FRONT + head->fee);
     other = file;
     memset(other.bytes + BEHIND_DIRECTORY - 4, 0, 4);
-    inspect_refused("inspection without a page", &other, file.length, PAGE, least, 1000, CHELMESUT_PAGE_NOT_FOUND,
+    inspect_refused("inspection without a page", &other, file.length, PAGE, least.limit, 1000, CHELMESUT_PAGE_NOT_FOUND,
                     DIRECTORY);
+}
+
+/* Without tag 277 a picture has one sample. */
+static void samples_unsaid(const struct head *head)
+{
+    const struct limits least = least_of(head);
+    uint64_t handle[CHELMESUT_HANDLE_WORDS + GUARD], budget = 1000;
+    struct file file;
+    make_file(head, &file, 1);
+    set(&file, ENTRY_OF_SAMPLES, 65000, 2);
+    if (head->channels == 3) {
+        inspect_refused("inspection without the number of samples", &file, file.length, PAGE, least.limit, 1000,
+                        CHELMESUT_UNSUPPORTED, FRONT);
+        return;
+    }
+    same("inspection without the number of samples", inspect(&file, file.length, PAGE, least.limit, &budget, handle),
+         CHELMESUT_OK);
+    same("what inspection leaves", budget, 1000 - FRONT - head->fee);
+    same("the channels", handle[CHELMESUT_CHANNELS], 1);
 }
 
 /* Buffers with bytes behind what is lent, which are never to change. */
 struct lent {
-    uint8_t output[2 * OUTPUT + GUARD], scratch[SCRATCH + GUARD], quality[4 + GUARD];
+    uint8_t output[2 * MOST_OUTPUT + GUARD], scratch[MOST_SCRATCH + GUARD], quality[4 + GUARD];
 };
 
 static void fill(struct lent *lent)
@@ -236,83 +301,90 @@ static void fill(struct lent *lent)
     memset(lent, WAS, sizeof *lent);
 }
 
-/* The length of the file is not among these. */
-static const uint64_t decode_limits[LIMITS] = {ONE_STRIP + 1, SCRATCH, 2, 4, ENTRIES, 1};
-
-static void decode(const char *what, uint64_t page, uint64_t forgery, size_t output, size_t scratch, uint64_t budget,
-                   uint64_t number)
+/* One word of the handle is forged by adding to it. */
+static void decode(const char *what, const struct head *head, uint64_t page, int word, uint64_t forgery, size_t output,
+                   size_t scratch, uint64_t budget, uint64_t number)
 {
     struct file file;
     struct lent lent;
     uint64_t handle[CHELMESUT_HANDLE_WORDS + GUARD], words[CHELMESUT_HANDLE_WORDS + GUARD], left = 1000;
-    const uint64_t *limit = decode_limits;
-    make_file(&file, 1);
+    struct limits limits = least_of(head);
+    const uint64_t *limit = limits.limit;
+    limits.limit[0]++; /* the length of the file is not among these */
+    make_file(head, &file, 1);
     fill(&lent);
     same("inspection", inspect(&file, file.length, PAGE, limit, &left, handle), CHELMESUT_OK);
-    handle[CHELMESUT_HANDLE_WORDS - 1] += forgery;
+    handle[word] += forgery;
     memcpy(words, handle, sizeof words);
     left = budget;
     same(what,
          chelmesut_decode(file.bytes, file.length, page, limit[0], limit[1], limit[2], limit[3], limit[4], limit[5], handle,
                           &left, lent.output, output, lent.scratch, scratch),
          number);
-    same("what decode leaves", left, number == CHELMESUT_OK ? budget - FEE : budget);
+    same("what decode leaves", left, number == CHELMESUT_OK ? budget - head->fee : budget);
     same("whether the handle is as it was", memcmp(words, handle, sizeof words) == 0, 1);
     if (number == CHELMESUT_OK) {
-        same_bytes("output", lent.output, pixels, OUTPUT);
-        all_are("scratch", lent.scratch, 0, SCRATCH, 0);
+        same_bytes("output", lent.output, head->pixels, head->output);
+        all_are("scratch", lent.scratch, 0, head->scratch, 0);
     }
-    all_are("output that stays", lent.output, number == CHELMESUT_OK ? OUTPUT : 0, sizeof lent.output, WAS);
-    all_are("scratch that stays", lent.scratch, number == CHELMESUT_OK ? SCRATCH : 0, sizeof lent.scratch, WAS);
+    all_are("output that stays", lent.output, number == CHELMESUT_OK ? head->output : 0, sizeof lent.output, WAS);
+    all_are("scratch that stays", lent.scratch, number == CHELMESUT_OK ? head->scratch : 0, sizeof lent.scratch, WAS);
 }
 
-static void decoding(void)
+static void decoding(const struct head *head)
 {
-    decode("decode", PAGE, 0, OUTPUT, SCRATCH, FEE, CHELMESUT_OK);
-    decode("decode with longer buffers", PAGE, 0, OUTPUT + 1, SCRATCH + 2, FEE + 3, CHELMESUT_OK);
-    decode("decode of another page", PAGE - 1, 0, OUTPUT, SCRATCH, FEE, CHELMESUT_INVALID);
-    decode("decode of a forged handle", PAGE, 1, OUTPUT, SCRATCH, FEE, CHELMESUT_INVALID);
-    decode("decode with short output", PAGE, 0, OUTPUT - 1, SCRATCH, FEE, CHELMESUT_OUTPUT_TOO_SMALL);
-    decode("decode with short scratch", PAGE, 0, OUTPUT, SCRATCH - 1, FEE, CHELMESUT_OUTPUT_TOO_SMALL);
-    decode("decode with a unit too few", PAGE, 0, OUTPUT, SCRATCH, FEE - 1, CHELMESUT_BUDGET);
+    const int last = CHELMESUT_HANDLE_WORDS - 1;
+    const size_t output = head->output, scratch = head->scratch;
+    const uint64_t fee = head->fee, other_channels = 4 - 2 * (uint64_t)head->channels; /* from 3 to 1 or from 1 to 3 */
+    decode("decode", head, PAGE, last, 0, output, scratch, fee, CHELMESUT_OK);
+    decode("decode with longer buffers", head, PAGE, last, 0, output + 1, scratch + 2, fee + 3, CHELMESUT_OK);
+    decode("decode of another page", head, PAGE - 1, last, 0, output, scratch, fee, CHELMESUT_INVALID);
+    decode("decode of a forged handle", head, PAGE, last, 1, output, scratch, fee, CHELMESUT_INVALID);
+    decode("decode of the other head's handle", head, PAGE, CHELMESUT_CHANNELS, other_channels, MOST_OUTPUT, MOST_SCRATCH,
+           fee, CHELMESUT_INVALID);
+    decode("decode with short output", head, PAGE, last, 0, output - 1, scratch, fee, CHELMESUT_OUTPUT_TOO_SMALL);
+    decode("decode with short scratch", head, PAGE, last, 0, output, scratch - 1, fee, CHELMESUT_OUTPUT_TOO_SMALL);
+    decode("decode with a unit too few", head, PAGE, last, 0, output, scratch, fee - 1, CHELMESUT_BUDGET);
 }
 
 /* ---- patchy reading, of two strips in two blocks */
 
-/* The least limits, but that max_dimension is one above the sides, so that no two are equal. */
-static const uint64_t patchy_least[LIMITS] = {TWO_STRIPS, 2 * OUTPUT, 3, 4, ENTRIES, 2};
-
 struct trial {
     const char *what;
+    const struct head *head;
     struct file file;
     size_t length, map_length, output, scratch, quality;
     uint8_t map[3];
     uint64_t limit[LIMITS], budget;
 };
 
-static struct trial whole(const char *what)
+/* The least limits, but that max_dimension is one above the sides, so that no two are equal. (Output and scratch of the two
+ * monochrome strips both have eight bytes.) */
+static struct trial whole(const struct head *head, const char *what)
 {
+    const uint64_t least[LIMITS] = {two_strips(head), 2 * head->output, 3, 4, ENTRIES, 2};
     struct trial t;
     memset(&t, 0, sizeof t);
     t.what = what;
-    make_file(&t.file, 2);
+    t.head = head;
+    make_file(head, &t.file, 2);
     t.length = t.file.length;
     t.map_length = 2;
-    t.output = 2 * OUTPUT;
-    t.scratch = SCRATCH;
+    t.output = 2 * head->output;
+    t.scratch = head->scratch;
     t.quality = 4;
     t.map[0] = t.map[1] = 1;
-    memcpy(t.limit, patchy_least, sizeof t.limit);
+    memcpy(t.limit, least, sizeof t.limit);
     t.budget = 1000;
     return t;
 }
 
 /* The two strips get these codes; or, with a number that is not 0, the call is refused. */
-static void read_patchy(const struct trial *t, uint64_t number, uint64_t charged, uint8_t first, uint8_t second)
+static void read_patchy(const struct trial *t, uint64_t number, uint64_t charge, uint8_t first, uint8_t second)
 {
-    static const uint64_t expected[CHELMESUT_ANSWER_WORDS] = {2, 2, 2, 1, 2};
-    const uint64_t *limit = t->limit;
-    const uint8_t codes[2] = {first, second}, blank[OUTPUT] = {0};
+    const struct head *head = t->head;
+    const uint64_t expected[CHELMESUT_ANSWER_WORDS] = {2, 2, 2, 1, 2, head->channels}, *limit = t->limit;
+    const uint8_t codes[2] = {first, second}, blank[MOST_OUTPUT] = {0};
     uint64_t answer[CHELMESUT_ANSWER_WORDS + GUARD], left = t->budget;
     struct lent lent;
     bool read = number == CHELMESUT_OK;
@@ -324,74 +396,95 @@ static void read_patchy(const struct trial *t, uint64_t number, uint64_t charged
                                limit[4], limit[5], &left, lent.output, t->output, lent.scratch, t->scratch, lent.quality,
                                t->quality, answer),
          number);
-    same("what patchy reading leaves", left, t->budget - charged);
+    same("what patchy reading leaves", left, t->budget - charge);
     for (int i = 0; i < CHELMESUT_ANSWER_WORDS + GUARD; i++)
         same("a word of an answer", answer[i], read && i < CHELMESUT_ANSWER_WORDS ? expected[i] : 0xfeed + (uint64_t)i);
     for (int k = 0; read && k < 2; k++)
-        same_bytes("a strip", lent.output + k * OUTPUT, codes[k] == CHELMESUT_QUALITY_GOOD ? pixels : blank, OUTPUT);
-    all_are("output that stays", lent.output, read ? 2 * OUTPUT : 0, sizeof lent.output, WAS);
-    all_are("scratch", lent.scratch, 0, read ? SCRATCH : 0, 0);
-    all_are("scratch that stays", lent.scratch, read ? SCRATCH : 0, sizeof lent.scratch, WAS);
+        same_bytes("a strip", lent.output + (size_t)k * head->output,
+                   codes[k] == CHELMESUT_QUALITY_GOOD ? head->pixels : blank, head->output);
+    all_are("output that stays", lent.output, read ? 2 * head->output : 0, sizeof lent.output, WAS);
+    all_are("scratch", lent.scratch, 0, read ? head->scratch : 0, 0);
+    all_are("scratch that stays", lent.scratch, read ? head->scratch : 0, sizeof lent.scratch, WAS);
     same_bytes("quality", lent.quality, codes, read ? 2 : 0);
     all_are("quality without a segment", lent.quality, read ? 2 : 0, t->quality, CHELMESUT_QUALITY_UNREAD);
     all_are("quality that stays", lent.quality, t->quality, sizeof lent.quality, WAS);
 }
 
-static void read_strips(void)
+static void read_strips(const struct head *head)
 {
     const uint8_t good = CHELMESUT_QUALITY_GOOD, missing = CHELMESUT_QUALITY_MISSING;
-    struct trial t = whole("patchy reading, all came");
-    read_patchy(&t, CHELMESUT_OK, FRONT + 2 * FEE, good, good);
-    t = whole("patchy reading with wide limits");
+    struct trial t = whole(head, "patchy reading, all came");
+    read_patchy(&t, CHELMESUT_OK, FRONT + 2 * head->fee, good, good);
+    t = whole(head, "patchy reading with wide limits");
     for (int i = 0; i < LIMITS; i++)
         t.limit[i] = wide;
-    read_patchy(&t, CHELMESUT_OK, FRONT + 2 * FEE, good, good);
-    t = whole("patchy reading without a map");
+    read_patchy(&t, CHELMESUT_OK, FRONT + 2 * head->fee, good, good);
+    t = whole(head, "patchy reading without a map");
     t.map_length = 0;
-    read_patchy(&t, CHELMESUT_OK, FRONT + 2 * FEE, good, good);
-    t = whole("patchy reading, block 1 lost");
+    read_patchy(&t, CHELMESUT_OK, FRONT + 2 * head->fee, good, good);
+    t = whole(head, "patchy reading, block 1 lost");
     t.map[1] = 0;
-    read_patchy(&t, CHELMESUT_OK, FRONT + FEE + 1, good, missing);
+    read_patchy(&t, CHELMESUT_OK, FRONT + head->fee + 1, good, missing);
     t.map[1] = 2;
-    memset(t.file.bytes + CHELMESUT_BLOCK, 0xff, sizeof packets);
-    read_patchy(&t, CHELMESUT_OK, FRONT + FEE + 1, good, missing);
-    t = whole("patchy reading of a short file");
+    memset(t.file.bytes + CHELMESUT_BLOCK, 0xff, head->stored);
+    read_patchy(&t, CHELMESUT_OK, FRONT + head->fee + 1, good, missing);
+    t = whole(head, "patchy reading of a short file");
     t.length--;
-    read_patchy(&t, CHELMESUT_OK, FRONT + FEE + 1, good, CHELMESUT_QUALITY_OUTSIDE);
-    t = whole("patchy reading of a long run");
+    read_patchy(&t, CHELMESUT_OK, FRONT + head->fee + 1, good, CHELMESUT_QUALITY_OUTSIDE);
+    t = whole(head, "patchy reading of a long run");
     t.file.bytes[STORED] = 0x83;
-    read_patchy(&t, CHELMESUT_OK, FRONT + 2 * FEE, CHELMESUT_QUALITY_REJECTED, good);
+    read_patchy(&t, CHELMESUT_OK, FRONT + 2 * head->fee, CHELMESUT_QUALITY_REJECTED, good);
 }
 
-static void refuse_strips(void)
+static void refuse_strips(const struct head *head)
 {
-    static const uint64_t numbers[LIMITS] = {CHELMESUT_LIMIT, CHELMESUT_LIMIT, CHELMESUT_UNSUPPORTED,
-                                             CHELMESUT_LIMIT, CHELMESUT_LIMIT, CHELMESUT_LIMIT};
-    static const uint64_t charged[LIMITS] = {0, FRONT, FRONT, 0, 0, FRONT};
     struct trial t;
     for (int i = 0; i < LIMITS; i++) {
-        t = whole("patchy reading with one limit lower");
+        t = whole(head, "patchy reading with one limit lower");
         t.limit[i] -= i == 2 ? 2 : 1; /* max_dimension */
         read_patchy(&t, numbers[i], charged[i], 0, 0);
     }
-    t = whole("patchy reading with a long map");
+    t = whole(head, "patchy reading with a long map");
     t.map_length = 3;
     read_patchy(&t, CHELMESUT_MAP_SIZE, 0, 0, 0);
-    t = whole("patchy reading, block 0 lost");
+    t = whole(head, "patchy reading, block 0 lost");
     t.map[0] = 0;
     read_patchy(&t, CHELMESUT_NOT_ARRIVED, 0, 0, 0);
-    t = whole("patchy reading with short output");
+    t = whole(head, "patchy reading with short output");
     t.output--;
     read_patchy(&t, CHELMESUT_OUTPUT_TOO_SMALL, FRONT, 0, 0);
-    t = whole("patchy reading with short scratch");
+    t = whole(head, "patchy reading with short scratch");
     t.scratch--;
     read_patchy(&t, CHELMESUT_OUTPUT_TOO_SMALL, FRONT, 0, 0);
-    t = whole("patchy reading with short quality");
+    t = whole(head, "patchy reading with short quality");
     t.quality = 1;
     read_patchy(&t, CHELMESUT_OUTPUT_TOO_SMALL, FRONT, 0, 0);
-    t = whole("patchy reading with a unit too few");
-    t.budget = FRONT + 2 * FEE - 1;
+    t = whole(head, "patchy reading with a unit too few");
+    t.budget = FRONT + 2 * head->fee - 1;
     read_patchy(&t, CHELMESUT_BUDGET, FRONT, 0, 0);
+}
+
+/* Photometric and samples must be those of one head together (rule 3.9), for either reading. */
+static void other_heads(const struct head *head)
+{
+    static const uint32_t photometrics[] = {0, 1, 2, 32843, 32844, 32845, 32846}, samples[] = {0, 1, 2, 3, 4};
+    const struct limits least = least_of(head);
+    for (int p = 0; p < 7; p++)
+        for (int c = 0; c < 5; c++) {
+            struct trial t = whole(head, "patchy reading of a picture of no head");
+            struct file file;
+            if (photometrics[p] == head->photometric && samples[c] == head->channels)
+                continue;
+            /* The other head's two numbers go together; it is then the depths that are too many or too few. */
+            make_file(head, &file, 1);
+            set(&file, ENTRY_OF_PHOTOMETRIC + 8, photometrics[p], 2);
+            set(&file, ENTRY_OF_SAMPLES + 8, samples[c], 2);
+            inspect_refused("inspection of a picture of no head", &file, file.length, PAGE, least.limit, 1000,
+                            CHELMESUT_UNSUPPORTED, FRONT);
+            set(&t.file, ENTRY_OF_PHOTOMETRIC + 8, photometrics[p], 2);
+            set(&t.file, ENTRY_OF_SAMPLES + 8, samples[c], 2);
+            read_patchy(&t, CHELMESUT_UNSUPPORTED, FRONT, 0, 0);
+        }
 }
 
 /* ---- the bound, in which max_dimension and max_directories have no part, and page and max_tags the same */
@@ -705,11 +798,16 @@ static void predictor3(void)
 
 int main(void)
 {
+    const struct head *heads[] = {&colour, &monochrome, &dark};
     names();
-    inspection();
-    decoding();
-    read_strips();
-    refuse_strips();
+    for (int i = 0; i < 3; i++) {
+        inspection(heads[i]);
+        samples_unsaid(heads[i]);
+        decoding(heads[i]);
+        read_strips(heads[i]);
+        refuse_strips(heads[i]);
+        other_heads(heads[i]);
+    }
     work_limit();
     starts();
     blocks();

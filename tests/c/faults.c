@@ -21,7 +21,7 @@ uint64_t __real_chelmesut_decode(const uint8_t *file, size_t file_len, uint64_t 
 uint64_t __real_chelmesut_read_patchy(const uint8_t *file, size_t file_len, const uint8_t *map, size_t map_len,
                                       uint64_t page, CHELMESUT_LIMITS, uint64_t *budget, uint8_t *output, size_t output_len,
                                       uint8_t *scratch, size_t scratch_len, uint8_t *quality, size_t quality_len,
-                                      uint64_t answer[5]);
+                                      uint64_t answer[6]);
 uint64_t __real_chelmesut_receive_start(uint8_t *file, size_t file_len, uint8_t *map, size_t map_len, uint64_t receiver[2],
                                         uint64_t length);
 uint64_t __real_chelmesut_receive_block(uint8_t *file, size_t file_len, uint8_t *map, size_t map_len, uint64_t receiver[2],
@@ -36,7 +36,7 @@ uint64_t __wrap_chelmesut_decode(const uint8_t *file, size_t file_len, uint64_t 
 uint64_t __wrap_chelmesut_read_patchy(const uint8_t *file, size_t file_len, const uint8_t *map, size_t map_len,
                                       uint64_t page, CHELMESUT_LIMITS, uint64_t *budget, uint8_t *output, size_t output_len,
                                       uint8_t *scratch, size_t scratch_len, uint8_t *quality, size_t quality_len,
-                                      uint64_t answer[5]);
+                                      uint64_t *answer);
 uint64_t __wrap_chelmesut_receive_start(uint8_t *file, size_t file_len, uint8_t *map, size_t map_len, uint64_t receiver[2],
                                         uint64_t length);
 uint64_t __wrap_chelmesut_receive_block(uint8_t *file, size_t file_len, uint8_t *map, size_t map_len, uint64_t receiver[2],
@@ -60,6 +60,17 @@ enum fault {
     STRICT_PAIR_EXCHANGED_IN_BIG_ENDIAN,
     STRICT_PAIR_TAKEN_FROM_PLACE,
     STRICT_PAIR_OUTSIDE_AT_PLACE,
+    STRICT_MONOCHROME_REFUSED,
+    STRICT_SAMPLES_MUST_BE_SAID,
+    STRICT_MONOCHROME_FOUR_PLANES,
+    STRICT_MONOCHROME_FEE_OF_COLOUR,
+    STRICT_COLOUR_FEE_OF_MONOCHROME,
+    STRICT_MONOCHROME_SCRATCH_OF_COLOUR,
+    HANDLE_CHANNELS_ALWAYS_THREE,
+    HANDLE_CHANNELS_OF_FIRST_PAGE,
+    DECODE_TAKES_FORGED_CHANNELS,
+    DECODE_MONOCHROME_BYTES_EXCHANGED,
+    DECODE_MONOCHROME_SIX_BYTES_APART,
     PATCHY_BIT_OF_PIXEL,
     PATCHY_PREVIOUS_PIXELS,
     PATCHY_LOST_MARKED_GOOD,
@@ -76,6 +87,18 @@ enum fault {
     PATCHY_PAIR_SECOND_IS_FIRST,
     PATCHY_PAIR_OUTSIDE_AT_PLACE,
     PATCHY_PAIR_LOST_AT_PLACE,
+    PATCHY_MONOCHROME_REFUSED,
+    PATCHY_SAMPLES_MUST_BE_SAID,
+    PATCHY_MONOCHROME_FOUR_PLANES,
+    PATCHY_MONOCHROME_FEE_OF_COLOUR,
+    PATCHY_MONOCHROME_SCRATCH_OF_COLOUR,
+    PATCHY_CHANNELS_ALWAYS_THREE,
+    PATCHY_CHANNELS_NOT_WRITTEN,
+    PATCHY_WORD_BEHIND_CHANNELS,
+    PATCHY_MONOCHROME_BYTES_EXCHANGED,
+    PATCHY_MONOCHROME_SIX_BYTES_BLANKED,
+    PATCHY_COLOUR_TWO_BYTES_BLANKED,
+    PATCHY_DARK_MARKED_LOST,
     START_LEAVES_MARKS,
     START_CLEARS_FILE,
     BLOCK_AGAIN_PASSED_OVER,
@@ -145,7 +168,79 @@ static bool has_pair_at(const uint8_t *file, size_t file_len, const uint8_t *map
     return false;
 }
 
+/* ---- heads: a reader that takes one for the other */
+
+/* Whether a page, whose directory came, has its number of samples. */
+static bool says_samples(const uint8_t *file, size_t file_len, uint64_t page)
+{
+    const struct memory lent = {.bytes = (uint8_t *)file, .length = file_len}; /* it is only read */
+    return entry_of(&lent, directory_of(&lent, page), TIFFTAG_SAMPLESPERPIXEL) != 0;
+}
+
+/* What inspection finds of the channels of a page, or 0. */
+static uint64_t channels_of(const uint8_t *file, size_t file_len, uint64_t page, CHELMESUT_LIMITS)
+{
+    uint64_t all = UINT64_MAX, handle[CHELMESUT_HANDLE_WORDS] = {0};
+    __real_chelmesut_inspect(file, file_len, page, LIMIT_WORDS, &all, handle);
+    return handle[CHELMESUT_CHANNELS];
+}
+
+/* The charge for so many pixels becomes that of the other head. Answers with 7 where it is not met. */
+static uint64_t charge_other_head(uint64_t channels, uint64_t pixels, uint64_t *budget)
+{
+    uint64_t wrong = fee_for(&colour, 0, pixels) - fee_for(&monochrome, 0, pixels);
+    if (channels == colour.samples)
+        *budget += wrong;
+    else if (*budget < wrong)
+        return CHELMESUT_BUDGET;
+    else
+        *budget -= wrong;
+    return CHELMESUT_OK;
+}
+
+/* The bytes of each L in the other order. */
+static void exchange_bytes(uint8_t *pixels, uint64_t length)
+{
+    for (uint64_t i = 0; i + 1 < length; i += monochrome.pixel) {
+        uint8_t low = pixels[i];
+        pixels[i] = pixels[i + 1];
+        pixels[i + 1] = low;
+    }
+}
+
+/* Each pixel at the place that it has in a colour picture, as far as that is in the output; between them all stays. */
+static void set_apart(uint8_t *pixels, uint64_t length)
+{
+    uint8_t *right = copy_of(pixels, length);
+    for (uint64_t from = 0, to = 0; to < length; from += monochrome.pixel, to += colour.pixel)
+        memcpy(pixels + to, right + from, monochrome.pixel);
+    free(right);
+}
+
 /* ---- strict reading */
+
+/* What inspection says of a page that it accepts, with the other head's numbers somewhere. */
+static uint64_t mistake_head(const uint8_t *file, size_t file_len, uint64_t page, CHELMESUT_LIMITS, uint64_t *budget,
+                             uint64_t handle[17])
+{
+    uint64_t area = handle[CHELMESUT_BLOCK_WIDTH] * handle[CHELMESUT_BLOCK_HEIGHT];
+    bool single = handle[CHELMESUT_CHANNELS] == monochrome.samples;
+    if (fault == STRICT_MONOCHROME_REFUSED && single)
+        return CHELMESUT_UNSUPPORTED;
+    if (fault == STRICT_SAMPLES_MUST_BE_SAID && !says_samples(file, file_len, page))
+        return CHELMESUT_UNSUPPORTED;
+    if (fault == STRICT_MONOCHROME_FOUR_PLANES && single)
+        return CHELMESUT_TRUNCATED;
+    if ((fault == STRICT_MONOCHROME_FEE_OF_COLOUR && single) || (fault == STRICT_COLOUR_FEE_OF_MONOCHROME && !single))
+        return charge_other_head(handle[CHELMESUT_CHANNELS], area, budget);
+    if (fault == STRICT_MONOCHROME_SCRATCH_OF_COLOUR && single)
+        handle[CHELMESUT_SCRATCH_LEN] = scratch_for(&colour, area);
+    if (fault == HANDLE_CHANNELS_ALWAYS_THREE)
+        handle[CHELMESUT_CHANNELS] = colour.samples;
+    if (fault == HANDLE_CHANNELS_OF_FIRST_PAGE)
+        handle[CHELMESUT_CHANNELS] = channels_of(file, file_len, 0, LIMIT_WORDS);
+    return CHELMESUT_OK;
+}
 
 static bool strict_misreads_pairs(void)
 {
@@ -165,6 +260,8 @@ uint64_t __wrap_chelmesut_inspect(const uint8_t *file, size_t file_len, uint64_t
     if (fault == STRICT_PAIR_OUTSIDE_AT_PLACE && number == 0 &&
         has_pair_at(file, file_len, NULL, 0, page, CHELMESUT_QUALITY_OUTSIDE))
         number = CHELMESUT_TRUNCATED;
+    if (number == 0)
+        number = mistake_head(file, file_len, page, LIMIT_WORDS, budget, handle);
     if (fault == HANDLE_OF_PREVIOUS_PAGE && number == 0 && page > 0)
         handle[CHELMESUT_PAGE_INDEX]--;
     if (fault == HANDLE_WORK_TOO_SMALL && number == 0)
@@ -185,6 +282,8 @@ uint64_t __wrap_chelmesut_decode(const uint8_t *file, size_t file_len, uint64_t 
     memcpy(own, handle, sizeof own);
     if (fault == DECODE_TAKES_FORGED_HANDLE)
         __real_chelmesut_inspect(file, file_len, page, LIMIT_WORDS, &all, own);
+    if (fault == DECODE_TAKES_FORGED_CHANNELS)
+        own[CHELMESUT_CHANNELS] = channels_of(file, file_len, page, LIMIT_WORDS);
     if (strict_misreads_pairs()) {
         seen = with_misread_pairs(file, file_len, page);
         file = seen.bytes;
@@ -206,6 +305,10 @@ uint64_t __wrap_chelmesut_decode(const uint8_t *file, size_t file_len, uint64_t 
         scratch[own[CHELMESUT_SCRATCH_LEN] - 1] = 1;
     if (fault == DECODE_CHARGES_NOTHING)
         *budget = before;
+    if (fault == DECODE_MONOCHROME_BYTES_EXCHANGED && own[CHELMESUT_CHANNELS] == monochrome.samples)
+        exchange_bytes(output, own[CHELMESUT_OUTPUT_LEN]);
+    if (fault == DECODE_MONOCHROME_SIX_BYTES_APART && own[CHELMESUT_CHANNELS] == monochrome.samples)
+        set_apart(output, own[CHELMESUT_OUTPUT_LEN]);
     return number;
 }
 
@@ -234,28 +337,108 @@ static void mark_pairs(const uint8_t *file, size_t file_len, const uint8_t *map,
         memset(quality, CHELMESUT_QUALITY_MISSING, 2);
 }
 
-/* The first pixel of each lost segment as it was before. */
-static void leave_pixels(const uint64_t answer[5], const uint8_t *quality, const uint8_t *before, uint8_t *output)
+/* Bytes of a pixel, and of all. */
+static uint64_t pixel_of(const uint64_t answer[6])
+{
+    return answer[CHELMESUT_A_CHANNELS] == monochrome.samples ? monochrome.pixel : colour.pixel;
+}
+
+static uint64_t picture_of(const uint64_t answer[6])
+{
+    return pixel_of(answer) * answer[CHELMESUT_A_WIDTH] * answer[CHELMESUT_A_HEIGHT];
+}
+
+/* The place of the first pixel of a segment, and of that which follows the last pixel of its first row. */
+static uint64_t first_of(const uint64_t answer[6], uint64_t segment)
 {
     uint64_t across = (answer[CHELMESUT_A_WIDTH] - 1) / answer[CHELMESUT_A_BLOCK_WIDTH] + 1;
-    for (uint64_t k = 0; k < answer[CHELMESUT_A_SEGMENTS]; k++) {
-        uint64_t y = k / across * answer[CHELMESUT_A_BLOCK_HEIGHT], x = k % across * answer[CHELMESUT_A_BLOCK_WIDTH];
-        uint64_t place = PIXEL * (y * answer[CHELMESUT_A_WIDTH] + x);
+    uint64_t y = segment / across * answer[CHELMESUT_A_BLOCK_HEIGHT], x = segment % across * answer[CHELMESUT_A_BLOCK_WIDTH];
+    return pixel_of(answer) * (y * answer[CHELMESUT_A_WIDTH] + x);
+}
+
+static uint64_t row_end_of(const uint64_t answer[6], uint64_t segment)
+{
+    uint64_t row = pixel_of(answer) * answer[CHELMESUT_A_WIDTH], first = first_of(answer, segment);
+    uint64_t end = first + pixel_of(answer) * answer[CHELMESUT_A_BLOCK_WIDTH], row_end = (first / row + 1) * row;
+    return end < row_end ? end : row_end;
+}
+
+/* The first pixel of each lost segment as it was before, from a byte of it on. */
+static void leave_pixels(const uint64_t answer[6], const uint8_t *quality, const uint8_t *before, uint8_t *output, uint64_t from)
+{
+    for (uint64_t k = 0; k < answer[CHELMESUT_A_SEGMENTS]; k++)
         if (quality[k] != CHELMESUT_QUALITY_GOOD)
-            memcpy(output + place, before + place, PIXEL);
+            memcpy(output + first_of(answer, k) + from, before + first_of(answer, k) + from, pixel_of(answer) - from);
+}
+
+/* The first row of each lost segment blanked as if its last pixel had six bytes, as far as that is in the picture. */
+static void blank_neighbours(const uint64_t answer[6], const uint8_t *quality, uint8_t *output)
+{
+    uint64_t over = colour.pixel - monochrome.pixel, end = picture_of(answer);
+    for (uint64_t k = 0; k < answer[CHELMESUT_A_SEGMENTS]; k++)
+        if (quality[k] != CHELMESUT_QUALITY_GOOD) {
+            uint64_t place = row_end_of(answer, k);
+            memset(output + place, 0, end - place < over ? end - place : over);
+        }
+}
+
+/* A good segment whose first row is zeros is taken for one that did not come. */
+static void mark_dark(const uint64_t answer[6], uint8_t *quality, const uint8_t *output)
+{
+    for (uint64_t k = 0; k < answer[CHELMESUT_A_SEGMENTS]; k++) {
+        uint64_t at = first_of(answer, k), end = row_end_of(answer, k);
+        while (at < end && output[at] == 0)
+            at++;
+        if (at == end)
+            quality[k] = CHELMESUT_QUALITY_MISSING;
     }
 }
 
-static void spoil_picture(const uint64_t answer[5], uint64_t *budget, const uint8_t *before, uint8_t *output,
+/* A reading that was accepted, with the other head's numbers somewhere. It may come to be refused. */
+static uint64_t mistake_head_patchily(const uint8_t *file, size_t file_len, uint64_t page, uint64_t *budget,
+                                      const uint8_t *before, uint8_t *output, size_t scratch_len, uint8_t *quality,
+                                      uint64_t word, uint64_t *answer)
+{
+    uint64_t area = answer[CHELMESUT_A_BLOCK_WIDTH] * answer[CHELMESUT_A_BLOCK_HEIGHT];
+    bool single = answer[CHELMESUT_A_CHANNELS] == monochrome.samples;
+    if (fault == PATCHY_MONOCHROME_REFUSED && single)
+        return CHELMESUT_UNSUPPORTED;
+    if (fault == PATCHY_SAMPLES_MUST_BE_SAID && !says_samples(file, file_len, page))
+        return CHELMESUT_UNSUPPORTED;
+    if (fault == PATCHY_MONOCHROME_SCRATCH_OF_COLOUR && single && scratch_len < scratch_for(&colour, area))
+        return CHELMESUT_OUTPUT_TOO_SMALL;
+    if (fault == PATCHY_MONOCHROME_FEE_OF_COLOUR && single && quality[0] == CHELMESUT_QUALITY_GOOD)
+        return charge_other_head(answer[CHELMESUT_A_CHANNELS], area, budget);
+    if (fault == PATCHY_MONOCHROME_FOUR_PLANES && single) {
+        memset(quality, CHELMESUT_QUALITY_REJECTED, answer[CHELMESUT_A_SEGMENTS]);
+        memset(output, 0, picture_of(answer));
+    }
+    if (fault == PATCHY_MONOCHROME_BYTES_EXCHANGED && single)
+        exchange_bytes(output, picture_of(answer));
+    if (fault == PATCHY_MONOCHROME_SIX_BYTES_BLANKED && single)
+        blank_neighbours(answer, quality, output);
+    if (fault == PATCHY_COLOUR_TWO_BYTES_BLANKED && !single)
+        leave_pixels(answer, quality, before, output, monochrome.pixel);
+    if (fault == PATCHY_DARK_MARKED_LOST)
+        mark_dark(answer, quality, output);
+    if (fault == PATCHY_CHANNELS_ALWAYS_THREE)
+        answer[CHELMESUT_A_CHANNELS] = colour.samples;
+    if (fault == PATCHY_CHANNELS_NOT_WRITTEN)
+        answer[CHELMESUT_A_CHANNELS] = word;
+    if (fault == PATCHY_WORD_BEHIND_CHANNELS)
+        answer[CHELMESUT_ANSWER_WORDS] = 0;
+    return CHELMESUT_OK;
+}
+
+static void spoil_picture(const uint64_t answer[6], uint64_t *budget, const uint8_t *before, uint8_t *output,
                           size_t output_len, uint8_t *scratch, uint8_t *quality, size_t quality_len)
 {
-    uint64_t pixels = PIXEL * answer[CHELMESUT_A_WIDTH] * answer[CHELMESUT_A_HEIGHT],
-             segments = answer[CHELMESUT_A_SEGMENTS];
+    uint64_t pixels = picture_of(answer), segments = answer[CHELMESUT_A_SEGMENTS];
     uint8_t *lost = memchr(quality, CHELMESUT_QUALITY_MISSING, segments);
     if (fault == PATCHY_BIT_OF_PIXEL)
         output[pixels - 1] ^= 128;
     if (fault == PATCHY_PREVIOUS_PIXELS)
-        leave_pixels(answer, quality, before, output);
+        leave_pixels(answer, quality, before, output, 0);
     if (fault == PATCHY_LOST_MARKED_GOOD && lost)
         *lost = CHELMESUT_QUALITY_GOOD;
     if (fault == PATCHY_ALL_MARKED_LOST)
@@ -273,10 +456,10 @@ static void spoil_picture(const uint64_t answer[5], uint64_t *budget, const uint
 uint64_t __wrap_chelmesut_read_patchy(const uint8_t *file, size_t file_len, const uint8_t *map, size_t map_len,
                                       uint64_t page, CHELMESUT_LIMITS, uint64_t *budget, uint8_t *output, size_t output_len,
                                       uint8_t *scratch, size_t scratch_len, uint8_t *quality, size_t quality_len,
-                                      uint64_t answer[5])
+                                      uint64_t *answer)
 {
     uint8_t *seen = copy_of(map, map_len), *before = copy_of(output, output_len), *marks = copy_of(quality, quality_len);
-    uint64_t granted = *budget, number;
+    uint64_t granted = *budget, word = answer[CHELMESUT_A_CHANNELS], number;
     misread(seen, map_len);
     if (fault == PATCHY_WRONG_MAP_TAKEN && map_len > (file_len + CHELMESUT_BLOCK - 1) / CHELMESUT_BLOCK)
         map_len = 0;
@@ -292,6 +475,7 @@ uint64_t __wrap_chelmesut_read_patchy(const uint8_t *file, size_t file_len, cons
     if (number == 0) {
         mark_pairs(file, file_len, map, map_len, page, quality);
         spoil_picture(answer, budget, before, output, output_len, scratch, quality, quality_len);
+        number = mistake_head_patchily(file, file_len, page, budget, before, output, scratch_len, quality, word, answer);
     } else if (fault == PATCHY_ANSWER_ON_REFUSAL)
         answer[CHELMESUT_A_WIDTH] = 0;
     else if (fault == PATCHY_QUALITY_STAYS_ON_REFUSAL)

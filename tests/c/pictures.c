@@ -1,5 +1,5 @@
-/* Files in memory, LogLuv pictures that libtiff writes into them and reads from them, and what stands in them by their bytes (see
- * pictures.h). */
+/* Files in memory, pictures of either head that libtiff writes into them and reads from them, and what stands in them by their
+ * bytes (see pictures.h). */
 #include "pictures.h"
 #include <stdarg.h>
 #include <stdio.h>
@@ -112,9 +112,22 @@ bool one_in(struct dice *dice, uint32_t n)
     return below(dice, n) == 0;
 }
 
+const struct head colour = {"colour", PHOTOMETRIC_LOGLUV, 3, 4, 6};
+const struct head monochrome = {"monochrome", PHOTOMETRIC_LOGL, 1, 2, 2};
+
+uint64_t scratch_for(const struct head *head, uint64_t area)
+{
+    return (head->planes + head->pixel) * area;
+}
+
+uint64_t fee_for(const struct head *head, uint64_t stored, uint64_t area)
+{
+    return stored + 2 * (head->planes + head->pixel) * area + 1;
+}
+
 size_t pixel_bytes(const struct shape *shape)
 {
-    return (size_t)shape->width * shape->height * PIXEL;
+    return (size_t)shape->width * shape->height * shape->head->pixel;
 }
 
 static tmsize_t read_some(thandle_t handle, void *bytes, tmsize_t wanted)
@@ -214,23 +227,25 @@ static void set_number(TIFF *tiff, uint32_t tag, uint32_t value)
 /* The tile at (x, y) of a page. Beyond the page's edge it repeats the last pixel of the row, and the last row. */
 static void copy_to_tile(const struct shape *shape, uint32_t x, uint32_t y, const int16_t *samples, int16_t *tile)
 {
+    size_t each = shape->head->samples;
     for (uint32_t row = 0; row < shape->block_height; row++)
         for (uint32_t column = 0; column < shape->block_width; column++) {
             uint32_t from_x = x + column < shape->width ? x + column : shape->width - 1;
             uint32_t from_y = y + row < shape->height ? y + row : shape->height - 1;
-            memcpy(tile + 3 * ((size_t)row * shape->block_width + column),
-                   samples + 3 * ((size_t)from_y * shape->width + from_x), PIXEL);
+            memcpy(tile + each * ((size_t)row * shape->block_width + column),
+                   samples + each * ((size_t)from_y * shape->width + from_x), each * sizeof *tile);
         }
 }
 
 /* What of the tile at (x, y) lies in the page. */
 static void copy_from_tile(const struct shape *shape, uint32_t x, uint32_t y, const uint8_t *tile, uint8_t *pixels)
 {
+    size_t pixel = shape->head->pixel;
     uint32_t columns = shape->width - x < shape->block_width ? shape->width - x : shape->block_width;
     uint32_t rows = shape->height - y < shape->block_height ? shape->height - y : shape->block_height;
     for (uint32_t row = 0; row < rows; row++)
-        memcpy(pixels + PIXEL * ((size_t)(y + row) * shape->width + x), tile + PIXEL * ((size_t)row * shape->block_width),
-               (size_t)columns * PIXEL);
+        memcpy(pixels + pixel * ((size_t)(y + row) * shape->width + x), tile + pixel * ((size_t)row * shape->block_width),
+               pixel * columns);
 }
 
 static uint32_t strip_rows(const struct shape *shape, uint32_t y)
@@ -238,14 +253,29 @@ static uint32_t strip_rows(const struct shape *shape, uint32_t y)
     return shape->height - y < shape->block_height ? shape->height - y : shape->block_height;
 }
 
+/* Bytes of a segment's pixels, with so many rows. */
+static tmsize_t segment_bytes(const struct shape *shape, uint32_t rows)
+{
+    return (tmsize_t)shape->head->pixel * shape->block_width * rows;
+}
+
+/* Before libtiff encodes 16-bit samples for a big-endian file it swaps their bytes in the lent buffer, though its encoder takes
+ * them as numbers of this machine. They are swapped here too, so that the file has what was drawn. */
+static void swap_beforehand(TIFF *tiff, int16_t *samples, tmsize_t size)
+{
+    if (TIFFIsByteSwapped(tiff))
+        TIFFSwabArrayOfShort((uint16_t *)samples, size / (tmsize_t)sizeof *samples);
+}
+
 static void write_tiles(TIFF *tiff, const struct shape *shape, const int16_t *samples)
 {
-    tmsize_t size = (tmsize_t)PIXEL * shape->block_width * shape->block_height;
+    tmsize_t size = segment_bytes(shape, shape->block_height);
     int16_t *tile = lend((size_t)size);
     uint32_t segment = 0;
     for (uint32_t y = 0; y < shape->height; y += shape->block_height)
         for (uint32_t x = 0; x < shape->width; x += shape->block_width) {
             copy_to_tile(shape, x, y, samples, tile);
+            swap_beforehand(tiff, tile, size);
             if (TIFFWriteEncodedTile(tiff, segment++, tile, size) != size)
                 give_up("libtiff does not write a tile");
         }
@@ -254,15 +284,19 @@ static void write_tiles(TIFF *tiff, const struct shape *shape, const int16_t *sa
 
 static void write_strips(TIFF *tiff, const struct shape *shape, const int16_t *samples)
 {
+    size_t row = (size_t)shape->head->samples * shape->width;
     uint32_t segment = 0, rows;
+    int16_t *strip = lend((size_t)segment_bytes(shape, strip_rows(shape, 0)));
     for (uint32_t y = 0; y < shape->height; y += rows) {
         tmsize_t size;
         rows = strip_rows(shape, y);
-        size = (tmsize_t)PIXEL * shape->width * rows;
-        /* libtiff asks for a buffer that it may change, and does not change it. */
-        if (TIFFWriteEncodedStrip(tiff, segment++, (void *)(samples + 3 * (size_t)y * shape->width), size) != size)
+        size = segment_bytes(shape, rows);
+        memcpy(strip, samples + row * y, (size_t)size);
+        swap_beforehand(tiff, strip, size);
+        if (TIFFWriteEncodedStrip(tiff, segment++, strip, size) != size)
             give_up("libtiff does not write a strip");
     }
+    free(strip);
 }
 
 void write_page(TIFF *tiff, const struct shape *shape, const int16_t *samples)
@@ -270,11 +304,12 @@ void write_page(TIFF *tiff, const struct shape *shape, const int16_t *samples)
     set_number(tiff, TIFFTAG_IMAGEWIDTH, shape->width);
     set_number(tiff, TIFFTAG_IMAGELENGTH, shape->height);
     set_number(tiff, TIFFTAG_BITSPERSAMPLE, 16);
-    set_number(tiff, TIFFTAG_SAMPLESPERPIXEL, 3);
+    if (!shape->samples_unsaid)
+        set_number(tiff, TIFFTAG_SAMPLESPERPIXEL, shape->head->samples);
     set_number(tiff, TIFFTAG_SAMPLEFORMAT, SAMPLEFORMAT_INT);
     set_number(tiff, TIFFTAG_PLANARCONFIG, PLANARCONFIG_CONTIG);
     set_number(tiff, TIFFTAG_COMPRESSION, COMPRESSION_SGILOG);
-    set_number(tiff, TIFFTAG_PHOTOMETRIC, PHOTOMETRIC_LOGLUV);
+    set_number(tiff, TIFFTAG_PHOTOMETRIC, shape->head->photometric);
     set_number(tiff, TIFFTAG_SGILOGDATAFMT, SGILOGDATAFMT_16BIT);
     if (shape->tiled) {
         set_number(tiff, TIFFTAG_TILEWIDTH, shape->block_width);
@@ -296,9 +331,24 @@ static uint32_t number_of(TIFF *tiff, uint32_t tag)
     return value;
 }
 
+static const struct head *head_of(TIFF *tiff)
+{
+    const struct head *head;
+    uint16_t photometric = 0, samples = 0;
+    TIFFGetFieldDefaulted(tiff, TIFFTAG_PHOTOMETRIC, &photometric);
+    TIFFGetFieldDefaulted(tiff, TIFFTAG_SAMPLESPERPIXEL, &samples);
+    head = photometric == monochrome.photometric ? &monochrome : &colour;
+    if (photometric != head->photometric || samples != head->samples)
+        give_up("libtiff finds photometric %u and %u samples, which no head has", photometric, samples);
+    return head;
+}
+
 struct shape shape_of(TIFF *tiff)
 {
     struct shape shape;
+    uint16_t samples;
+    shape.head = head_of(tiff);
+    shape.samples_unsaid = !TIFFGetField(tiff, TIFFTAG_SAMPLESPERPIXEL, &samples);
     shape.width = number_of(tiff, TIFFTAG_IMAGEWIDTH);
     shape.height = number_of(tiff, TIFFTAG_IMAGELENGTH);
     shape.tiled = TIFFIsTiled(tiff);
@@ -314,7 +364,7 @@ struct shape shape_of(TIFF *tiff)
 
 static void read_tiles(TIFF *tiff, const struct shape *shape, uint8_t *pixels)
 {
-    tmsize_t size = (tmsize_t)PIXEL * shape->block_width * shape->block_height;
+    tmsize_t size = segment_bytes(shape, shape->block_height);
     uint8_t *tile = lend((size_t)size);
     uint32_t segment = 0;
     for (uint32_t y = 0; y < shape->height; y += shape->block_height)
@@ -328,12 +378,13 @@ static void read_tiles(TIFF *tiff, const struct shape *shape, uint8_t *pixels)
 
 static void read_strips(TIFF *tiff, const struct shape *shape, uint8_t *pixels)
 {
+    size_t row = (size_t)shape->head->pixel * shape->width;
     uint32_t segment = 0, rows;
     for (uint32_t y = 0; y < shape->height; y += rows) {
         tmsize_t size;
         rows = strip_rows(shape, y);
-        size = (tmsize_t)PIXEL * shape->width * rows;
-        if (TIFFReadEncodedStrip(tiff, segment++, pixels + PIXEL * (size_t)y * shape->width, size) != size)
+        size = segment_bytes(shape, rows);
+        if (TIFFReadEncodedStrip(tiff, segment++, pixels + row * y, size) != size)
             give_up("libtiff does not read a strip");
     }
 }

@@ -1,6 +1,6 @@
-/* What the programs of this folder share: files in memory, LogLuv pictures that libtiff writes into them and reads from
- * them, numbers and entries of a TIFF file by its bytes, traces of its blocks, random numbers that are the same in every run,
- * and the limits of a call. */
+/* What the programs of this folder share: files in memory, pictures of either head that libtiff writes into them and reads
+ * from them, numbers and entries of a TIFF file by its bytes, traces of its blocks, random numbers that are the same in every
+ * run, and the limits of a call. */
 #ifndef PICTURES_H
 #define PICTURES_H
 #include "../../include/chelmesut.h"
@@ -9,7 +9,20 @@
 #include <stdint.h>
 #include <tiffio.h>
 
-enum { PIXEL = 6 };
+/* A head of the camera (rule 3.9): what its pages have in tags 262 and 277, how many planes a row is stored in, and how many
+ * bytes a pixel is read as. Each sample is two of these bytes, in our pixels and in libtiff's 16-bit data. */
+struct head {
+    const char *name;
+    uint32_t photometric, samples, planes, pixel;
+};
+
+extern const struct head colour, monochrome;
+
+enum { MOST_PIXEL = 6 };
+
+/* What a segment of so many pixels takes of scratch, and what is charged for it with so many stored bytes (rules 7.3, 5.3). */
+uint64_t scratch_for(const struct head *head, uint64_t area);
+uint64_t fee_for(const struct head *head, uint64_t stored, uint64_t area);
 
 /* Says what went wrong by way of printf's words, and ends the program with status 2: a fault of the test itself. */
 _Noreturn void give_up(const char *words, ...) __attribute__((format(printf, 1, 2)));
@@ -45,10 +58,12 @@ uint32_t below(struct dice *dice, uint32_t bound);                  /* from 0 to
 uint32_t between(struct dice *dice, uint32_t least, uint32_t most); /* both may come */
 bool one_in(struct dice *dice, uint32_t n);
 
-/* How a page is cut. A strip's block width is the page's width; its block height may be above the page's, as in a file. */
+/* Which head made a page, and how it is cut. A strip's block width is the page's width; its block height may be above the
+ * page's, as in a file. Where the samples are unsaid the page has no tag 277, as a monochrome one may. */
 struct shape {
+    const struct head *head;
     uint32_t width, height, block_width, block_height;
-    bool tiled;
+    bool tiled, samples_unsaid;
 };
 
 size_t pixel_bytes(const struct shape *shape);
@@ -57,7 +72,7 @@ size_t pixel_bytes(const struct shape *shape);
 TIFF *open_to_write(struct memory *file, bool big_endian);
 TIFF *open_to_read(struct memory *file);
 
-/* Writes a page of samples L, u, v for each pixel; tags that are set before stay. */
+/* Writes a page of the head's samples for each pixel, L, u, v or L alone; tags that are set before stay. */
 void write_page(TIFF *tiff, const struct shape *shape, const int16_t *samples);
 
 /* What libtiff says of the page that is at hand, and its pixels in 16-bit samples. */

@@ -5,7 +5,9 @@
  *     worst table COUNTS
  *
  * The first writes the instructions of each call to COUNTS, as callgrind counts them between two marks about the call. The
- * second makes each call again without valgrind, times it, and prints the tables in Markdown. Files are little-endian. */
+ * second makes each call again without valgrind, times it, and prints the tables in Markdown. Files are little-endian, of the
+ * colour head and, where the head can matter, of the monochrome one too. The exit status is 1 if a call takes as much stack as
+ * the header says that none does. */
 #define _XOPEN_SOURCE 700
 #include "../../include/chelmesut.h"
 #include "pictures.h"
@@ -32,6 +34,7 @@ static const char *const call_name[CALLS] = {"inspect",       "decode", "read_pa
                                              "receive_block", "replay", "predictor64", "predictor3", "none"};
 
 struct input {
+    const struct head *head;
     struct memory file;
     uint8_t *map;
     size_t map_length;
@@ -133,9 +136,11 @@ static uint32_t pieces(uint32_t side, uint32_t block)
     return (side - 1) / block + 1;
 }
 
-/* The directory after the picture's own is itself again, so that the picture is every page. */
+/* The directory after the picture's own is itself again, so that the picture is every page. Arrays of one value, as depths and
+ * kinds of a monochrome picture are, stand in their entries; the bytes behind the directory are then unused. */
 static void put_picture(struct memory *file, const struct shape *shape, const struct memory *stored)
 {
+    uint32_t samples = shape->head->samples;
     uint32_t segments = pieces(shape->width, shape->block_width) * pieces(shape->height, shape->block_height);
     uint32_t entries = shape->tiled ? 11 : 10;
     uint32_t depths = 8 + 2 + 12 * entries + 4, kinds = depths + 6;
@@ -145,11 +150,11 @@ static void put_picture(struct memory *file, const struct shape *shape, const st
     put(file, entries, 2);
     put_entry(file, 256, 4, 1, shape->width);
     put_entry(file, 257, 4, 1, shape->height);
-    put_entry(file, 258, 3, 3, depths);
+    put_entry(file, 258, 3, samples, samples == 1 ? 16 : depths);
     put_entry(file, 259, 3, 1, 34676);
-    put_entry(file, 262, 3, 1, 32845);
-    put_entry(file, 277, 3, 1, 3);
-    put_entry(file, 339, 3, 3, kinds);
+    put_entry(file, 262, 3, 1, shape->head->photometric);
+    put_entry(file, 277, 3, 1, samples);
+    put_entry(file, 339, 3, samples, samples == 1 ? 2 : kinds);
     put_entry(file, shape->tiled ? 324 : 273, 4, segments, segments == 1 ? first : offsets);
     put_entry(file, shape->tiled ? 325 : 279, 4, segments, segments == 1 ? count : counts);
     if (shape->tiled) {
@@ -168,22 +173,26 @@ static void put_picture(struct memory *file, const struct shape *shape, const st
     append(file, stored->bytes, stored->length);
 }
 
-/* Packets of one kind for an area of a block, four bytes for each pixel. */
-static void put_literals(struct memory *stored, size_t bytes, uint32_t length)
+/* Packets of one kind for so many pixels of a block, with a byte for each plane of the input's head. */
+static struct memory in_literals(const struct input *input, size_t pixels, uint32_t length)
 {
-    for (size_t at = 0; at < bytes; at += length) {
-        put(stored, length, 1);
+    struct memory stored = {0};
+    for (size_t at = 0; at < input->head->planes * pixels; at += length) {
+        put(&stored, length, 1);
         for (uint32_t i = 0; i < length; i++)
-            put(stored, at + i, 1);
+            put(&stored, at + i, 1);
     }
+    return stored;
 }
 
-static void put_runs(struct memory *stored, size_t bytes, uint32_t length)
+static struct memory in_runs(const struct input *input, size_t pixels, uint32_t length)
 {
-    for (size_t at = 0; at < bytes; at += length) {
-        put(stored, length + 126, 1);
-        put(stored, at, 1);
+    struct memory stored = {0};
+    for (size_t at = 0; at < input->head->planes * pixels; at += length) {
+        put(&stored, length + 126, 1);
+        put(&stored, at, 1);
     }
+    return stored;
 }
 
 static struct shape strips(uint32_t width, uint32_t height, uint32_t rows)
@@ -193,11 +202,13 @@ static struct shape strips(uint32_t width, uint32_t height, uint32_t rows)
 
 static struct shape tiles(uint32_t width, uint32_t height, uint32_t block_width, uint32_t block_height)
 {
-    return (struct shape){width, height, block_width, block_height, true};
+    return (struct shape){
+        .width = width, .height = height, .block_width = block_width, .block_height = block_height, .tiled = true};
 }
 
 static void picture_of(struct input *input, struct shape shape, struct memory stored)
 {
+    shape.head = input->head;
     put_picture(&input->file, &shape, &stored);
     drop(&stored);
     let_all_come(input);
@@ -205,10 +216,11 @@ static void picture_of(struct input *input, struct shape shape, struct memory st
 
 static void empty_packets(struct input *input, uint32_t n)
 {
-    struct memory stored = {0};
+    struct memory stored = {0}, pixel = in_literals(input, 1, 1);
     for (uint32_t i = 0; i < n; i++)
         put(&stored, 0, 1);
-    put_literals(&stored, 4, 1);
+    append(&stored, pixel.bytes, pixel.length);
+    drop(&pixel);
     picture_of(input, strips(1, 1, 1), stored);
 }
 
@@ -216,46 +228,34 @@ static void empty_packets(struct input *input, uint32_t n)
 static void literals(struct input *input, uint32_t length)
 {
     uint32_t width = 1024 / length * length;
-    struct memory stored = {0};
-    put_literals(&stored, 4 * 16 * width, length);
-    picture_of(input, strips(width, 16, 16), stored);
+    picture_of(input, strips(width, 16, 16), in_literals(input, 16 * width, length));
 }
 
 static void runs(struct input *input, uint32_t length)
 {
     uint32_t width = 1024 / length * length;
-    struct memory stored = {0};
-    put_runs(&stored, 4 * 16 * width, length);
-    picture_of(input, strips(width, 16, 16), stored);
+    picture_of(input, strips(width, 16, 16), in_runs(input, 16 * width, length));
 }
 
 static void single_pixels(struct input *input, uint32_t segments)
 {
-    struct memory stored = {0};
-    put_literals(&stored, 4, 1);
-    picture_of(input, strips(1, segments, 1), stored);
+    picture_of(input, strips(1, segments, 1), in_literals(input, 1, 1));
 }
 
 static void single_rows(struct input *input, uint32_t segments)
 {
-    struct memory stored = {0};
-    put_runs(&stored, 4 * 640, 128);
-    picture_of(input, strips(640, segments, 1), stored);
+    picture_of(input, strips(640, segments, 1), in_runs(input, 640, 128));
 }
 
 /* Of each tile one column lies in the picture. */
 static void padding(struct input *input, uint32_t segments)
 {
-    struct memory stored = {0};
-    put_runs(&stored, 4 * 1024 * 16, 128);
-    picture_of(input, tiles(1, 16 * segments, 1024, 16), stored);
+    picture_of(input, tiles(1, 16 * segments, 1024, 16), in_runs(input, 1024 * 16, 128));
 }
 
 static void small_tiles(struct input *input, uint32_t across)
 {
-    struct memory stored = {0};
-    put_runs(&stored, 4 * 16 * 16, 16);
-    picture_of(input, tiles(16 * across, 16 * across, 16, 16), stored);
+    picture_of(input, tiles(16 * across, 16 * across, 16, 16), in_runs(input, 16 * 16, 16));
 }
 
 /* The packets of every segment are refused at their first byte. */
@@ -366,51 +366,61 @@ struct trial {
     void (*make)(struct input *input, uint32_t size);
     uint32_t size;
     enum call first, last; /* the calls that are tried */
+    bool either;           /* whether it is tried with a monochrome picture too */
 };
 
 /* Work and charge go together. Every block has arrived; decode is tried where inspection accepts. */
 static const struct trial paid[] = {
-    {"a directory of 60000 unknown tags", many_entries, 60000, INSPECT, PATCHY},
-    {"one unknown tag, 5000 times in a loop", loop_of_one_free_tag, TIMES, INSPECT, PATCHY},
-    {"the same across two blocks", loop_across_blocks, TIMES, INSPECT, PATCHY},
-    {"all 19 known tags, 5000 times in a loop", loop_of_all_known_tags, TIMES, INSPECT, PATCHY},
-    {"a picture of one pixel", single_pixels, 1, INSPECT, PATCHY},
-    {"one pixel, 100000 packets of control 0", empty_packets, 100000, INSPECT, PATCHY},
-    {"a strip, literals of length 1", literals, 1, INSPECT, PATCHY},
-    {"a strip, literals of length 127", literals, 127, INSPECT, PATCHY},
-    {"a strip, runs of 2", runs, 2, INSPECT, PATCHY},
-    {"a strip, runs of 129", runs, 129, INSPECT, PATCHY},
-    {"10000 strips of one pixel", single_pixels, 10000, INSPECT, PATCHY},
-    {"10000 strips of one pixel, packets refused at once", bad_packets, 10000, INSPECT, PATCHY},
-    {"480 strips of 640 x 1", single_rows, 480, INSPECT, PATCHY},
-    {"1024 tiles of 16 x 16", small_tiles, 32, INSPECT, PATCHY},
-    {"100 tiles of 1024 x 16, one column in the picture", padding, 100, INSPECT, PATCHY},
+    {"a directory of 60000 unknown tags", many_entries, 60000, INSPECT, PATCHY, false},
+    {"one unknown tag, 5000 times in a loop", loop_of_one_free_tag, TIMES, INSPECT, PATCHY, false},
+    {"the same across two blocks", loop_across_blocks, TIMES, INSPECT, PATCHY, false},
+    {"all 19 known tags, 5000 times in a loop", loop_of_all_known_tags, TIMES, INSPECT, PATCHY, false},
+    {"a picture of one pixel", single_pixels, 1, INSPECT, PATCHY, true},
+    {"one pixel, 100000 packets of control 0", empty_packets, 100000, INSPECT, PATCHY, true},
+    {"a strip, literals of length 1", literals, 1, INSPECT, PATCHY, true},
+    {"a strip, literals of length 127", literals, 127, INSPECT, PATCHY, true},
+    {"a strip, runs of 2", runs, 2, INSPECT, PATCHY, true},
+    {"a strip, runs of 129", runs, 129, INSPECT, PATCHY, true},
+    {"10000 strips of one pixel", single_pixels, 10000, INSPECT, PATCHY, true},
+    {"10000 strips of one pixel, packets refused at once", bad_packets, 10000, INSPECT, PATCHY, true},
+    {"480 strips of 640 x 1", single_rows, 480, INSPECT, PATCHY, true},
+    {"1024 tiles of 16 x 16", small_tiles, 32, INSPECT, PATCHY, true},
+    {"100 tiles of 1024 x 16, one column in the picture", padding, 100, INSPECT, PATCHY, true},
 };
 
 /* They do not. */
 static const struct trial unpaid[] = {
-    {"10000 strips of one pixel, lost", lost_pixels, 10000, PATCHY, PATCHY},
-    {"10000 strips of one pixel, outside the file", outside_pixels, 10000, PATCHY, PATCHY},
-    {"60 strips of 640 x 8, lost", lost_camera_picture, 8, PATCHY, PATCHY},
-    {"one tile of 1024 x 1024, lost", lost_block, 1024, PATCHY, PATCHY},
-    {"60 strips of 640 x 8, each of 4095 blocks, the last lost", long_ranges_of_camera, 8, PATCHY, PATCHY},
-    {"1000 strips of one pixel, each of 2048 blocks, the last lost", long_ranges, 1000, PATCHY, PATCHY},
-    {"the same with units for directory and profile alone", long_ranges_unpaid, 1000, PATCHY, PATCHY},
-    {"a directory of 60000 tags, no units", unpaid_directory, 60000, PATCHY, PATCHY},
-    {"one pixel, page 5000 of a loop, its own handle", late_page, TIMES, DECODE, DECODE},
-    {"the same, a forged handle", forged_late_page, TIMES, DECODE, DECODE},
-    {"10000 strips of one pixel, a forged handle", forged_pixels, 10000, DECODE, DECODE},
-    {"a trace of 2 MiB in 4096 blocks", trace_of_blocks, RECEIVED_BLOCKS, REPLAY, REPLAY},
-    {"a trace of 10000 starts, a map of 4096 bytes", trace_of_starts, 10000, REPLAY, REPLAY},
+    {"10000 strips of one pixel, lost", lost_pixels, 10000, PATCHY, PATCHY, true},
+    {"10000 strips of one pixel, outside the file", outside_pixels, 10000, PATCHY, PATCHY, false},
+    {"60 strips of 640 x 8, lost", lost_camera_picture, 8, PATCHY, PATCHY, true},
+    {"one tile of 1024 x 1024, lost", lost_block, 1024, PATCHY, PATCHY, true},
+    {"60 strips of 640 x 8, each of 4095 blocks, the last lost", long_ranges_of_camera, 8, PATCHY, PATCHY, false},
+    {"1000 strips of one pixel, each of 2048 blocks, the last lost", long_ranges, 1000, PATCHY, PATCHY, false},
+    {"the same with units for directory and profile alone", long_ranges_unpaid, 1000, PATCHY, PATCHY, false},
+    {"a directory of 60000 tags, no units", unpaid_directory, 60000, PATCHY, PATCHY, false},
+    {"one pixel, page 5000 of a loop, its own handle", late_page, TIMES, DECODE, DECODE, true},
+    {"the same, a forged handle", forged_late_page, TIMES, DECODE, DECODE, false},
+    {"10000 strips of one pixel, a forged handle", forged_pixels, 10000, DECODE, DECODE, false},
+    {"a trace of 2 MiB in 4096 blocks", trace_of_blocks, RECEIVED_BLOCKS, REPLAY, REPLAY, false},
+    {"a trace of 10000 starts, a map of 4096 bytes", trace_of_starts, 10000, REPLAY, REPLAY, false},
 };
 
 enum { PAID = sizeof paid / sizeof *paid, UNPAID = sizeof unpaid / sizeof *unpaid };
 
+/* Each trial with a colour picture, then those that are for either with a monochrome one. */
+enum { HEADS = 2 };
+static const struct head *const heads[HEADS] = {&colour, &monochrome};
+
+static bool is_for(const struct trial *trial, const struct head *head)
+{
+    return trial->either || head == &colour;
+}
+
 /* The handle is made by an inspection that is not counted. */
-static void make_input(const struct trial *trial, struct input *input)
+static void make_input(const struct trial *trial, const struct head *head, struct input *input)
 {
     uint64_t budget = UINT64_MAX;
-    *input = (struct input){.budget = UINT64_MAX};
+    *input = (struct input){.head = head, .budget = UINT64_MAX};
     trial->make(input, trial->size);
     if (!input->forged)
         chelmesut_inspect(input->file.bytes, input->file.length, input->page, WORDS_OF(limits), &budget, input->handle);
@@ -503,10 +513,10 @@ static uint64_t count_instructions(enum call call, const struct input *input, co
 }
 
 /* What the marks themselves and an empty call take is taken off. */
-static void count_trial(const struct trial *trial, const char *dump, FILE *counts)
+static void count_trial(const struct trial *trial, const struct head *head, const char *dump, FILE *counts)
 {
     struct input input;
-    make_input(trial, &input);
+    make_input(trial, head, &input);
     for (enum call call = trial->first; call <= trial->last; call++)
         if (to_be_tried(call, &input)) {
             uint64_t own = count_instructions(NO_CALL, &input, dump);
@@ -515,15 +525,21 @@ static void count_trial(const struct trial *trial, const char *dump, FILE *count
     drop_input(&input);
 }
 
+static void count_trials(const struct trial *trials, unsigned length, const char *dump, FILE *counts)
+{
+    for (int h = 0; h < HEADS; h++)
+        for (unsigned i = 0; i < length; i++)
+            if (is_for(&trials[i], heads[h]))
+                count_trial(&trials[i], heads[h], dump, counts);
+}
+
 static void count_all(const char *dump, const char *path)
 {
     FILE *counts = fopen(path, "w");
     if (!counts)
         give_up("worst: %s cannot be written", path);
-    for (unsigned i = 0; i < PAID; i++)
-        count_trial(&paid[i], dump, counts);
-    for (unsigned i = 0; i < UNPAID; i++)
-        count_trial(&unpaid[i], dump, counts);
+    count_trials(paid, PAID, dump, counts);
+    count_trials(unpaid, UNPAID, dump, counts);
     if (fclose(counts) != 0)
         give_up("worst: %s cannot be written", path);
 }
@@ -602,6 +618,9 @@ static size_t depth_of(enum call call, const struct input *input)
 
 static size_t deepest[CALLS];
 
+/* What the header says of every call. */
+enum { STACK_BOUND = 2048 };
+
 static void measure_depth(enum call call, const struct input *input)
 {
     size_t depth = depth_of(call, input);
@@ -628,15 +647,20 @@ static struct result result_of(enum call call, const struct input *input, FILE *
     return result;
 }
 
-static void print_paid(const struct trial *trial, FILE *counts)
+static const char *prefix_of(const struct head *head)
+{
+    return head == &monochrome ? "monochrome: " : "";
+}
+
+static void print_paid(const struct trial *trial, const struct head *head, FILE *counts)
 {
     struct input input;
     struct result results[3] = {{0}};
-    make_input(trial, &input);
+    make_input(trial, head, &input);
     for (enum call call = INSPECT; call <= PATCHY; call++)
         if (to_be_tried(call, &input))
             results[call] = result_of(call, &input, counts);
-    printf("| %s | %llu | %llu |", trial->words, (unsigned long long)results[INSPECT].number,
+    printf("| %s%s | %llu | %llu |", prefix_of(head), trial->words, (unsigned long long)results[INSPECT].number,
            (unsigned long long)results[INSPECT].units);
     for (enum call call = INSPECT; call <= PATCHY; call++)
         if (results[call].units > 0)
@@ -652,13 +676,13 @@ static void print_paid(const struct trial *trial, FILE *counts)
     drop_input(&input);
 }
 
-static void print_unpaid(const struct trial *trial, FILE *counts)
+static void print_unpaid(const struct trial *trial, const struct head *head, FILE *counts)
 {
     struct input input;
     struct result result;
-    make_input(trial, &input);
+    make_input(trial, head, &input);
     result = result_of(trial->first, &input, counts);
-    printf("| %s | %s | %llu | %llu | %llu | %.3f |", trial->words, call_name[trial->first],
+    printf("| %s%s | %s | %llu | %llu | %llu | %.3f |", prefix_of(head), trial->words, call_name[trial->first],
            (unsigned long long)result.number, (unsigned long long)result.units, (unsigned long long)result.instructions,
            result.time / 1e6);
     if (result.units > 0)
@@ -678,7 +702,31 @@ static void measure_others(void)
     drop_input(&input);
 }
 
-static void print_tables(const char *path)
+static void print_trials(const struct trial *trials, unsigned length,
+                         void (*print)(const struct trial *trial, const struct head *head, FILE *counts), FILE *counts)
+{
+    for (int h = 0; h < HEADS; h++)
+        for (unsigned i = 0; i < length; i++)
+            if (is_for(&trials[i], heads[h]))
+                print(&trials[i], heads[h], counts);
+}
+
+/* Whether every call keeps within the header's bound, which is said. */
+static bool print_depths(void)
+{
+    size_t most = 0;
+    printf("\n| function | deepest stack, bytes |\n|---|---:|\n");
+    for (enum call call = INSPECT; call < NO_CALL; call++) {
+        printf("| `chelmesut_%s` | %zu |\n", call_name[call], deepest[call]);
+        if (most < deepest[call])
+            most = deepest[call];
+    }
+    printf("\nThe deepest is %zu bytes%s; `make worst` fails where it is not below %d.\n", most,
+           most < STACK_BOUND ? "" : ", TOO DEEP", STACK_BOUND);
+    return most < STACK_BOUND;
+}
+
+static bool print_tables(const char *path)
 {
     FILE *counts = fopen(path, "r");
     if (!counts)
@@ -686,17 +734,13 @@ static void print_tables(const char *path)
     printf("| all in the file, all arrived | answer of inspect | its units | instructions a unit: inspect | decode | patchy "
            "| ns a unit: inspect | decode | patchy |\n");
     printf("|---|---:|---:|---:|---:|---:|---:|---:|---:|\n");
-    for (unsigned i = 0; i < PAID; i++)
-        print_paid(&paid[i], counts);
+    print_trials(paid, PAID, print_paid, counts);
     printf("\n| much work for few units | call | answer | units | instructions | ms | instructions a unit |\n");
     printf("|---|---|---:|---:|---:|---:|---:|\n");
-    for (unsigned i = 0; i < UNPAID; i++)
-        print_unpaid(&unpaid[i], counts);
+    print_trials(unpaid, UNPAID, print_unpaid, counts);
     fclose(counts);
     measure_others();
-    printf("\n| function | deepest stack, bytes |\n|---|---:|\n");
-    for (enum call call = INSPECT; call < NO_CALL; call++)
-        printf("| `chelmesut_%s` | %zu |\n", call_name[call], deepest[call]);
+    return print_depths();
 }
 
 int main(int arguments, char **argument)
@@ -710,7 +754,7 @@ int main(int arguments, char **argument)
     if (arguments == 4 && strcmp(argument[1], "count") == 0 && RUNNING_ON_VALGRIND)
         count_all(argument[2], argument[3]);
     else if (arguments == 3 && strcmp(argument[1], "table") == 0)
-        print_tables(argument[2]);
+        return print_tables(argument[2]) ? 0 : 1;
     else
         give_up("usage: worst count DUMP COUNTS (under valgrind), then worst table COUNTS");
     return 0;
