@@ -22,7 +22,7 @@ use Rattle.checks.specs.declared.Size.the-variants.{Fits, Over}
 use Rattle.checks.proofs.Sizes.{Known, fits-is, over-is}
 use Rattle.checks.specs.Sizes.{within, most64}
 use Rattle.pixel.specs.Luv.{rowPixels, pixels}
-use Rattle.pixel.specs.Inner.{Convertible}
+use Rattle.pixel_rows.specs.Inner.{Convertible}
 use Rattle.pixel.proofs.Rows.{row-length}
 use Rattle.luv.specs.Convert.{convertChecks}
 use Rattle.luv.specs.Inner.{Roomy}

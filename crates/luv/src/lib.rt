@@ -29,16 +29,17 @@ pub fn scatter(
     requires { ⌜ Scatterable mono w n rows first pitch (length (now planes)) (length (now out)) ⌝ }
     ensures { λ _. ⌜ now (out .exit) ≡ spread (rowShown mono w n (now (planes .entry))) pitch 0 rows first (now (out .entry)) ⌝ }
 {
-    let from_step = head::planes_of(mono) * w;
+    let t = pixel::table::uv_table();
+    let step = head::planes_of(mono) * w;
     let size = head::bytes_of(mono) * n;
     let mut r: usize = 0;
     let mut from: usize = 0;
     let mut at = first;
     while r < rows {
-        let from_end = from + from_step;
+        let from_end = from + step;
         let end = at + size;
-        pixel::convert_row(mono, &planes[from..from_end], w, n, &mut out[at..end]);
-        from += from_step;
+        pixel_rows::convert_row(mono, &planes[from..from_end], w, n, &t, &mut out[at..end]);
+        from = from_end;
         at += pitch;
         r += 1;
     }
@@ -48,6 +49,7 @@ fn convert_rows(mono: bool, planes: &[u8], w: usize, rows: usize, out: &mut [u8]
     requires { ⌜ Roomy mono w rows (length (now planes)) (length (now out)) ⌝ }
     ensures { λ _. ⌜ now (out .exit) ≡ overlay (pixels mono w rows (now (planes .entry))) (now (out .entry)) ⌝ }
 {
+    let t = pixel::table::uv_table();
     let from_step = head::planes_of(mono) * w;
     let to_step = head::bytes_of(mono) * w;
     let mut r: usize = 0;
@@ -56,7 +58,14 @@ fn convert_rows(mono: bool, planes: &[u8], w: usize, rows: usize, out: &mut [u8]
     while r < rows {
         let from_end = from + from_step;
         let to_end = to + to_step;
-        pixel::convert_row(mono, &planes[from..from_end], w, w, &mut out[to..to_end]);
+        pixel_rows::convert_row(
+            mono,
+            &planes[from..from_end],
+            w,
+            w,
+            &t,
+            &mut out[to..to_end],
+        );
         from = from_end;
         to = to_end;
         r += 1;

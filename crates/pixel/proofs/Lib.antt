@@ -1,2 +1,4 @@
+pub mod Holding
 pub mod Rows
+pub mod Stores
 pub mod Uv

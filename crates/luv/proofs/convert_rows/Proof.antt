@@ -5,10 +5,13 @@ use Rattle.luv.proofs.convert_rows.Statement.{statement}
 use Rattle.luv.proofs.convert_rows.Tie as tie
 
 abbrev Inv-loop : tie.InvT-loop
-Inv-loop head planes w rows out₀ from-step to-step r₀ from₀ to₀ out r from to = Converting head from-step to-step w rows planes out₀ out r from to
+Inv-loop head planes w rows out₀ t from-step to-step r₀ from₀ to₀ out r from to = Converting head from-step to-step w rows planes out₀ out r from to
 
 abbrev μ-loop : tie.MeasureT-loop
-μ-loop head planes w rows out₀ from-step to-step r₀ from₀ to₀ out r from to = rows - r
+μ-loop head planes w rows out₀ t from-step to-step r₀ from₀ to₀ out r from to = rows - r
+
+uv-table-requires : tie.Need-uv-table-requires Inv-loop μ-loop
+uv-table-requires c κs = search converts
 
 planes-of-requires : tie.Need-planes-of-requires Inv-loop μ-loop
 planes-of-requires c κs = search converts
@@ -47,7 +50,7 @@ part-convert-row-start-2 : tie.Need-part-convert-row-start-2 Inv-loop μ-loop
 part-convert-row-start-2 c = search converts
 
 part-convert-row-end-2 : tie.Need-part-convert-row-end-2 Inv-loop μ-loop
-part-convert-row-end-2 c = search converts
+part-convert-row-end-2 c = search (c .before .before .before .loop .inv, converts)
 
 convert-row-requires : tie.Need-convert-row-requires Inv-loop μ-loop
 convert-row-requires c κs = search converts
@@ -73,6 +76,7 @@ convert-rows-spec =
     (tie.spec
     Inv-loop
     μ-loop
+    uv-table-requires
     planes-of-requires
     mul-from-step
     bytes-of-requires

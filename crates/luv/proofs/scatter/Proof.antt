@@ -5,17 +5,20 @@ use Rattle.luv.proofs.scatter.Statement.{statement}
 use Rattle.luv.proofs.scatter.Tie as tie
 
 abbrev Inv-loop : tie.InvT-loop
-Inv-loop head planes w n rows first pitch out₀ from-step size r₀ from₀ at₀ out r from at =
-    Scattering head from-step size w n rows first pitch planes out₀ out r from at
+Inv-loop head planes w n rows first pitch out₀ t step size r₀ from₀ at₀ out r from at =
+    Scattering head step size w n rows first pitch planes out₀ out r from at
 
 abbrev μ-loop : tie.MeasureT-loop
-μ-loop head planes w n rows first pitch out₀ from-step size r₀ from₀ at₀ out r from at = rows - r
+μ-loop head planes w n rows first pitch out₀ t step size r₀ from₀ at₀ out r from at = rows - r
+
+uv-table-requires : tie.Need-uv-table-requires Inv-loop μ-loop
+uv-table-requires c κs = search scatters
 
 planes-of-requires : tie.Need-planes-of-requires Inv-loop μ-loop
 planes-of-requires c κs = search scatters
 
-mul-from-step : tie.Need-mul-from-step Inv-loop μ-loop
-mul-from-step c = search scatters
+mul-step : tie.Need-mul-step Inv-loop μ-loop
+mul-step c = search scatters
 
 bytes-of-requires : tie.Need-bytes-of-requires Inv-loop μ-loop
 bytes-of-requires c κs = search scatters
@@ -48,16 +51,13 @@ part-convert-row-start-2 : tie.Need-part-convert-row-start-2 Inv-loop μ-loop
 part-convert-row-start-2 c = search scatters
 
 part-convert-row-end-2 : tie.Need-part-convert-row-end-2 Inv-loop μ-loop
-part-convert-row-end-2 c = search (c .before .before .loop .inv, scatters)
+part-convert-row-end-2 c = search (c .before .before .before .loop .inv, scatters)
 
 convert-row-requires : tie.Need-convert-row-requires Inv-loop μ-loop
 convert-row-requires c κs = search scatters
 
-add-from : tie.Need-add-from Inv-loop μ-loop
-add-from c = search scatters
-
 add-at : tie.Need-add-at Inv-loop μ-loop
-add-at c = search (c .before .before .before .before .before .before .loop .inv, scatters)
+add-at c = search (c .before .before .before .before .before .before .before .loop .inv, scatters)
 
 add-r : tie.Need-add-r Inv-loop μ-loop
 add-r c = search scatters
@@ -80,8 +80,9 @@ scatter-spec =
     (tie.spec
     Inv-loop
     μ-loop
+    uv-table-requires
     planes-of-requires
-    mul-from-step
+    mul-step
     bytes-of-requires
     mul-size
     loop-holds
@@ -94,7 +95,6 @@ scatter-spec =
     part-convert-row-start-2
     part-convert-row-end-2
     convert-row-requires
-    add-from
     add-at
     add-r
     loop-less

@@ -1,5 +1,5 @@
 -- Two stores fill a part of two bytes.
-use Rattle.pixel.proofs.Rows.{two-mono}
+use Rattle.pixel.proofs.Stores.{two-mono}
 use lib.ListN.{length-set}
 use borrow.Author.Needs.{needs}
 use Rattle.pixel.proofs.put_mono.Statement.{statement}

@@ -1,16 +1,16 @@
 -- Six stores fill a part of six bytes.
-use Rattle.pixel.proofs.Rows.{six-pixel}
+use Rattle.pixel.proofs.Stores.{six-pixel}
 use lib.ListN.{length-set}
 use native.Mathlib.Omega.{arith}
 use borrow.Author.Needs.{needs}
 use Rattle.pixel.proofs.put_pixel.Statement.{statement}
 use Rattle.pixel.proofs.put_pixel.Tie as tie
 
-expand-uv-requires : tie.Need-expand-uv-requires
-expand-uv-requires c κs = search needs
+uv-at-requires : tie.Need-uv-at-requires
+uv-at-requires c κs = search needs
 
-expand-uv-requires-2 : tie.Need-expand-uv-requires-2
-expand-uv-requires-2 c κs = search needs
+uv-at-requires-2 : tie.Need-uv-at-requires-2
+uv-at-requires-2 c κs = search needs
 
 slice-write-d : tie.Need-slice-write-d
 slice-write-d c = search needs
@@ -52,8 +52,8 @@ pub put-pixel-spec : {M : Type 1} → statement M
 put-pixel-spec =
     tie.close
     (tie.spec
-    expand-uv-requires
-    expand-uv-requires-2
+    uv-at-requires
+    uv-at-requires-2
     slice-write-d
     slice-write-d-2
     cast-d

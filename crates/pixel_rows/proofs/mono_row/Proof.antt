@@ -1,19 +1,18 @@
 -- Each turn joins one pixel to those of the row so far.
 use Prim.Native.Nat.{_-_}
-use Rattle.head.specs.Heads.{monoHead}
-use Rattle.pixel.proofs.Rows.{Drawing, row}
+use Rattle.pixel_rows.proofs.Rows.{Monos, monos}
 use borrow.Author.Needs.{needs}
-use Rattle.pixel.proofs.mono_row.Statement.{statement}
-use Rattle.pixel.proofs.mono_row.Tie as tie
+use Rattle.pixel_rows.proofs.mono_row.Statement.{statement}
+use Rattle.pixel_rows.proofs.mono_row.Tie as tie
 
 abbrev Inv-loop : tie.InvT-loop
-Inv-loop planes w n out₀ i₀ o₀ out i o = Drawing monoHead 2 w n planes out₀ out i o
+Inv-loop planes w n out₀ i₀ o₀ out i o = Monos w n planes out₀ out i o
 
 abbrev μ-loop : tie.MeasureT-loop
 μ-loop planes w n out₀ i₀ o₀ out i o = n - i
 
 loop-holds : tie.Need-loop-holds Inv-loop μ-loop
-loop-holds c = search row
+loop-holds c = search monos
 
 add-e : tie.Need-add-e Inv-loop μ-loop
 add-e c = search needs
@@ -46,13 +45,13 @@ loop-less : tie.Need-loop-less Inv-loop μ-loop
 loop-less c = search needs
 
 loop-again : tie.Need-loop-again Inv-loop μ-loop
-loop-again c = search row
+loop-again c = search monos
 
 same-length : tie.Need-same-length Inv-loop μ-loop
 same-length c = search needs
 
 returns : tie.Need-returns Inv-loop μ-loop
-returns c = search row
+returns c = search monos
 
 pub mono-row-spec : {M : Type 1} → statement M
 mono-row-spec =

@@ -1,84 +1,86 @@
--- Each turn joins one pixel to those of the row so far.
+-- Each turn joins one pixel to those so far.
 use Prim.Native.Nat.{_-_}
-use Rattle.head.specs.Heads.{colourHead}
-use Rattle.pixel.proofs.Rows.{Drawing, row}
-use borrow.Author.Needs.{needs}
-use Rattle.pixel.proofs.colour_row.Statement.{statement}
-use Rattle.pixel.proofs.colour_row.Tie as tie
+use Rattle.pixel_rows.proofs.Rows.{Colours, singles}
+use Rattle.pixel_rows.proofs.singles_at.Statement.{statement}
+use Rattle.pixel_rows.proofs.singles_at.Tie as tie
 
 abbrev Inv-loop : tie.InvT-loop
-Inv-loop planes w n out₀ i₀ o₀ out i o = Drawing colourHead 6 w n planes out₀ out i o
+Inv-loop planes w i n t out₀ k₀ o₀ out k o = Colours w planes i n out₀ out k o
 
 abbrev μ-loop : tie.MeasureT-loop
-μ-loop planes w n out₀ i₀ o₀ out i o = n - i
+μ-loop planes w i n t out₀ k₀ o₀ out k o = n - k
 
 loop-holds : tie.Need-loop-holds Inv-loop μ-loop
-loop-holds c = search row
+loop-holds c = search singles
+
+add-j : tie.Need-add-j Inv-loop μ-loop
+add-j c = search singles
 
 add-e : tie.Need-add-e Inv-loop μ-loop
-add-e c = search needs
+add-e c = search singles
 
 sub-put-pixel : tie.Need-sub-put-pixel Inv-loop μ-loop
-sub-put-pixel c = search needs
+sub-put-pixel c = search singles
 
 part-put-pixel-start : tie.Need-part-put-pixel-start Inv-loop μ-loop
-part-put-pixel-start c = search needs
+part-put-pixel-start c = search singles
 
 part-put-pixel-end : tie.Need-part-put-pixel-end Inv-loop μ-loop
-part-put-pixel-end c = search needs
+part-put-pixel-end c = search singles
 
 shared-slice-read-put-pixel : tie.Need-shared-slice-read-put-pixel Inv-loop μ-loop
-shared-slice-read-put-pixel c = search needs
+shared-slice-read-put-pixel c = search singles
 
 add-put-pixel : tie.Need-add-put-pixel Inv-loop μ-loop
-add-put-pixel c = search needs
+add-put-pixel c = search singles
 
 shared-slice-read-put-pixel-2 : tie.Need-shared-slice-read-put-pixel-2 Inv-loop μ-loop
-shared-slice-read-put-pixel-2 c = search needs
+shared-slice-read-put-pixel-2 c = search singles
 
 mul-put-pixel : tie.Need-mul-put-pixel Inv-loop μ-loop
-mul-put-pixel c = search needs
+mul-put-pixel c = search singles
 
 add-put-pixel-2 : tie.Need-add-put-pixel-2 Inv-loop μ-loop
-add-put-pixel-2 c = search needs
+add-put-pixel-2 c = search singles
 
 shared-slice-read-put-pixel-3 : tie.Need-shared-slice-read-put-pixel-3 Inv-loop μ-loop
-shared-slice-read-put-pixel-3 c = search needs
+shared-slice-read-put-pixel-3 c = search singles
 
 mul-put-pixel-2 : tie.Need-mul-put-pixel-2 Inv-loop μ-loop
-mul-put-pixel-2 c = search needs
+mul-put-pixel-2 c = search singles
 
 add-put-pixel-3 : tie.Need-add-put-pixel-3 Inv-loop μ-loop
-add-put-pixel-3 c = search needs
+add-put-pixel-3 c = search singles
 
 shared-slice-read-put-pixel-4 : tie.Need-shared-slice-read-put-pixel-4 Inv-loop μ-loop
-shared-slice-read-put-pixel-4 c = search needs
+shared-slice-read-put-pixel-4 c = search singles
 
 put-pixel-requires : tie.Need-put-pixel-requires Inv-loop μ-loop
-put-pixel-requires c κs = search needs
+put-pixel-requires c κs = search singles
 
-add-i : tie.Need-add-i Inv-loop μ-loop
-add-i c = search needs
+add-k : tie.Need-add-k Inv-loop μ-loop
+add-k c = search singles
 
 loop-less : tie.Need-loop-less Inv-loop μ-loop
-loop-less c = search needs
+loop-less c = search singles
 
 loop-again : tie.Need-loop-again Inv-loop μ-loop
-loop-again c = search row
+loop-again c = search singles
 
 same-length : tie.Need-same-length Inv-loop μ-loop
-same-length c = search needs
+same-length c = search singles
 
 returns : tie.Need-returns Inv-loop μ-loop
-returns c = search row
+returns c = search singles
 
-pub colour-row-spec : {M : Type 1} → statement M
-colour-row-spec =
+pub singles-at-spec : {M : Type 1} → statement M
+singles-at-spec =
     tie.close
     (tie.spec
     Inv-loop
     μ-loop
     loop-holds
+    add-j
     add-e
     sub-put-pixel
     part-put-pixel-start
@@ -93,7 +95,7 @@ colour-row-spec =
     add-put-pixel-3
     shared-slice-read-put-pixel-4
     put-pixel-requires
-    add-i
+    add-k
     loop-less
     loop-again
     same-length

@@ -1,7 +1,7 @@
 -- The row of the head that it is.
-use Rattle.pixel.proofs.Rows.{heads}
-use Rattle.pixel.proofs.convert_row.Statement.{statement}
-use Rattle.pixel.proofs.convert_row.Tie as tie
+use Rattle.pixel_rows.proofs.Rows.{heads}
+use Rattle.pixel_rows.proofs.convert_row.Statement.{statement}
+use Rattle.pixel_rows.proofs.convert_row.Tie as tie
 
 mono-row-requires : tie.Need-mono-row-requires
 mono-row-requires c κs = search heads

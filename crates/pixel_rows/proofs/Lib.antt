@@ -1,0 +1,3 @@
+pub mod Several
+pub mod Blocks
+pub mod Rows
