@@ -512,6 +512,10 @@ def planes():
         v = bytes(255 - x for x in u)
         yield plain('uv-%03d' % (8 * k), counted(8, k) + counted(8, k + 1) + u + v, 8, 1, 48)
 
+    # widths about 4, 64 and 128, as rows are made in blocks, four pixels at a time
+    for w in (*range(1, 10), *range(60, 73), *range(124, 134)):
+        yield plain('w%d' % w, draw.some(8 * w), w, 2, 12 * w)
+
 def mono_planes():
     draw = Draw(6)
     def plain(tag, data, w, rows, out, which=1):
@@ -807,7 +811,13 @@ WRONG = (
     ('uv is rounded', '8192 // 205', '8192 // 205 if x % 7 else round((2 * x + 1) * 8192 / 205)'),
     ('uv without its half step', '(2 * x + 1) * 8192', '(2 * x) * 8192'),
     ('uv over 410 of whole steps', '(2 * x + 1) * 8192 // 205', 'x * 16384 // 205 + 39'),
+    ('uv: one number is one too much', '8192 // 205', '8192 // 205 + (x == 126)'),
+    ('uv: one place off', '(2 * x + 1) * 8192', '(2 * min(x + 1, 255) + 1) * 8192'),
     ('L is swapped', 'high * 256 + low', 'low * 256 + high'),
+    ('every block shows the first 64 pixels', ROW, 'pixel(*row[x % 64::w])'),
+    ('every four pixels are the first of them', ROW, 'pixel(*row[x // 4 * 4::w])'),
+    ('what is left of a row by fours is 0', ROW, 'pixel(*row[x::w]) if x < w // 4 * 4 else [0] * b'),
+    ('what is left of a row begins a place early', ROW, 'pixel(*row[x if x < w // 4 * 4 else max(0, x - 1)::w])'),
     ('u and v are swapped', '*map(uv, colour)', '*map(uv, colour[::-1])'),
     ('pixels are big-endian', "'<H'", "'>H'"),
     ('planes of the whole segment', ROW, 'pixel(*planes[y * w + x::rows * w][:p])'),
