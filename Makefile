@@ -1,6 +1,6 @@
 # What people run here. `make` alone says what there is.
 .PHONY: help demo demo-trace strips strips-test replay replay-test test more vectors vectors-write format lib install uninstall install-test
-.PHONY: png readme face rust compare faults bench worst
+.PHONY: png readme face loops rust compare faults bench worst
 # Targets share the library and target/; rt and cargo use all processors by themselves.
 .NOTPARALLEL:
 
@@ -23,10 +23,12 @@ help:
 	@echo 'make install-test   install under target/, compile an example with what is there, and uninstall (needs gcc, pkg-config)'
 	@echo "make readme         compile and run README's example in C (needs gcc)"
 	@echo 'make face           compile the header as C and C++, call each of its functions, compare versions (needs gcc, g++)'
+	@echo 'make loops          look at the machine code: no loop over pixels divides or multiplies (needs gcc, python3)'
 	@echo 'make rust           build, test and run the Rust binding (needs cargo)'
 	@echo 'make compare        compare with libtiff on COUNT=5000 random pictures from SEED=1 (a minute; needs gcc, libtiff-dev)'
 	@echo 'make faults         make mistakes between compare and the library: it must notice each (needs gcc, libtiff-dev)'
-	@echo 'make bench          time the library beside libtiff, and its receiver beside memcpy (needs gcc, libtiff-dev)'
+	@echo 'make bench          time the library beside libtiff, and its receiver beside memcpy (needs gcc, libtiff-dev); with BEFORE=ARCHIVE'
+	@echo '                    beside another build of it too, in the same run'
 	@echo 'make worst          instructions for each unit charged, and the deepest stack (needs gcc, libtiff-dev, valgrind)'
 	@echo
 	@echo 'What a command needs is named where it is missing; with INSTALL=1 behind it, it is installed (on Debian, as root).'
@@ -67,7 +69,7 @@ test:
 	@.ci/run
 
 # The gate needs the kit alone; these need more. Not here are bench and worst, which measure.
-more: vectors lib demo strips-test demo-trace replay-test png readme face install-test rust compare faults
+more: vectors lib demo strips-test demo-trace replay-test png readme face loops install-test rust compare faults
 
 vectors:
 	@tools/need python3
@@ -118,6 +120,11 @@ face:
 	@tools/need gcc g++
 	@archive=$$(tools/archive) && tests/c/face.sh "$$archive"
 
+# objdump comes with gcc.
+loops:
+	@tools/need gcc python3
+	@archive=$$(tools/archive) && python3 tests/loops.py "$$archive"
+
 # $(call build,PROGRAM,SOURCES)
 build = archive=$$(tools/archive) && $(CC) $(CFLAGS) -o target/$(1) $(addprefix tests/c/,$(2)) tests/c/pictures.c "$$archive" -ltiff $(LDFLAGS)
 
@@ -134,8 +141,15 @@ faults:
 	@$(call build,faults,compare.c faults.c)
 	@tests/c/faults.sh target/faults
 
+# BEFORE= names an archive of another build, whose functions are renamed so that both can be linked.
+BEFORE =
+bench: CFLAGS += $(if $(BEFORE),-DBEFORE)
+bench: LDFLAGS = $(if $(BEFORE),target/before.a)
 bench:
 	@tools/need gcc libtiff-dev
+	@mkdir -p target
+	@[ -z '$(BEFORE)' ] || nm -g --defined-only '$(BEFORE)' | sed -n 's/.* T chelmesut_/chelmesut_/p' | sed 's/^chelmesut_\(.*\)/& before_\1/' >target/before.syms
+	@[ -z '$(BEFORE)' ] || objcopy --redefine-syms=target/before.syms '$(BEFORE)' target/before.a
 	@$(call build,bench,bench.c)
 	@target/bench $(CAMERA) "$$(uname -m), $$(lscpu | sed -n 's/^Model name: *//p' | head -n 1)" "$$(rt version)"
 

@@ -7,7 +7,10 @@
  * done in one process, each repetition (201) measures every way of reading once, in turn, and medians are compared. All ways
  * read from memory into memory that was touched before, and no buffer is cleared between the repetitions. Pixels are compared
  * before anything is timed, and so is what was received. The exit status is 1 if strict or patchy reading of a whole picture has
- * less than 0.6 of libtiff's speed, or the receiver less than 0.5 of memcpy's. */
+ * less than 0.6 of libtiff's speed, or the receiver less than 0.5 of memcpy's.
+ *
+ * Compiled with -DBEFORE it also times another build of the library, whose functions begin with before_ in place of chelmesut_, in
+ * turn with the others: two builds are compared in one run. */
 #define _POSIX_C_SOURCE 200809L
 #include "../../include/chelmesut.h"
 #include "pictures.h"
@@ -24,8 +27,30 @@ static const double wanted = 0.6, wanted_of_receiver = 0.5;
 
 static const struct limits limits = {2097152, 2097152, 65535, 4, 256, STRIPS};
 
-/* The ways of reading that are timed. */
-enum way { LIBTIFF, STRICT, PATCHY_WHOLE, PATCHY_LOST, COPY, WAYS };
+/* A build of the library. */
+struct library {
+    __typeof__(chelmesut_inspect) *inspect;
+    __typeof__(chelmesut_decode) *decode;
+    __typeof__(chelmesut_read_patchy) *read_patchy;
+};
+
+static const struct library now = {chelmesut_inspect, chelmesut_decode, chelmesut_read_patchy};
+
+#ifdef BEFORE
+extern __typeof__(chelmesut_inspect) before_inspect;
+extern __typeof__(chelmesut_decode) before_decode;
+extern __typeof__(chelmesut_read_patchy) before_read_patchy;
+static const struct library before = {before_inspect, before_decode, before_read_patchy};
+enum { WITH_BEFORE = 1 };
+#else
+static const struct library before;
+enum { WITH_BEFORE = 0 };
+#endif
+
+/* The ways of reading that are timed. Those by the build before are last, in the order of the others. */
+enum way { LIBTIFF, STRICT, PATCHY_WHOLE, PATCHY_LOST, COPY, STRICT_BEFORE, PATCHY_WHOLE_BEFORE, PATCHY_LOST_BEFORE, MOST_WAYS };
+
+static const enum way ways = WITH_BEFORE ? MOST_WAYS : STRICT_BEFORE;
 
 struct content {
     const char *name;
@@ -33,7 +58,7 @@ struct content {
     struct memory file;
     uint8_t *whole, *lost; /* delivery maps: every block came, and some did not */
     uint32_t good;         /* strips of which every block came, under the second map */
-    double median[WAYS];
+    double median[MOST_WAYS];
 };
 
 static uint8_t expected[OUTPUT], output[OUTPUT], scratch[SCRATCH], quality[STRIPS];
@@ -129,20 +154,20 @@ static void must(const char *what, uint64_t number)
         give_up("bench: %s is refused with %llu", what, (unsigned long long)number);
 }
 
-static void read_strictly(const struct memory *file)
+static void read_strictly(const struct library *library, const struct memory *file)
 {
     uint64_t handle[CHELMESUT_HANDLE_WORDS], budget = UINT64_MAX;
-    must("inspection", chelmesut_inspect(file->bytes, file->length, 0, WORDS_OF(limits), &budget, handle));
-    must("decode", chelmesut_decode(file->bytes, file->length, 0, WORDS_OF(limits), handle, &budget, output, sizeof output,
-                                    scratch, sizeof scratch));
+    must("inspection", library->inspect(file->bytes, file->length, 0, WORDS_OF(limits), &budget, handle));
+    must("decode", library->decode(file->bytes, file->length, 0, WORDS_OF(limits), handle, &budget, output, sizeof output, scratch,
+                                   sizeof scratch));
 }
 
-static void read_patchily(const struct memory *file, const uint8_t *map)
+static void read_patchily(const struct library *library, const struct memory *file, const uint8_t *map)
 {
     uint64_t answer[CHELMESUT_ANSWER_WORDS], budget = UINT64_MAX;
     must("patchy reading",
-         chelmesut_read_patchy(file->bytes, file->length, map, blocks_of(file), 0, WORDS_OF(limits), &budget, output,
-                               sizeof output, scratch, sizeof scratch, quality, sizeof quality, answer));
+         library->read_patchy(file->bytes, file->length, map, blocks_of(file), 0, WORDS_OF(limits), &budget, output,
+                              sizeof output, scratch, sizeof scratch, quality, sizeof quality, answer));
 }
 
 static void read_by(int way, void *by)
@@ -150,9 +175,12 @@ static void read_by(int way, void *by)
     struct content *content = by;
     switch (way) {
     case LIBTIFF: read_by_libtiff(content, output); break;
-    case STRICT: read_strictly(&content->file); break;
-    case PATCHY_WHOLE: read_patchily(&content->file, content->whole); break;
-    case PATCHY_LOST: read_patchily(&content->file, content->lost); break;
+    case STRICT: read_strictly(&now, &content->file); break;
+    case PATCHY_WHOLE: read_patchily(&now, &content->file, content->whole); break;
+    case PATCHY_LOST: read_patchily(&now, &content->file, content->lost); break;
+    case STRICT_BEFORE: read_strictly(&before, &content->file); break;
+    case PATCHY_WHOLE_BEFORE: read_patchily(&before, &content->file, content->whole); break;
+    case PATCHY_LOST_BEFORE: read_patchily(&before, &content->file, content->lost); break;
     default: memcpy(output, expected, pixel_bytes(&content->shape));
     }
 }
@@ -171,7 +199,7 @@ static void compare_pixels(struct content *content, enum way way)
             give_up("bench: the pixels of strip %d of '%s' are not libtiff's", strip, content->name);
         if (way == PATCHY_LOST)
             content->good += quality[strip] == CHELMESUT_QUALITY_GOOD;
-        else if (quality[strip] != CHELMESUT_QUALITY_GOOD)
+        else if (way != PATCHY_LOST_BEFORE && quality[strip] != CHELMESUT_QUALITY_GOOD)
             give_up("bench: strip %d of '%s' came, and is marked %d", strip, content->name, quality[strip]);
     }
 }
@@ -213,9 +241,9 @@ static void time_ways(void (*by)(int way, void *what), void *what, int ways, siz
 static void time_content(struct content *content, size_t repetitions)
 {
     read_by_libtiff(content, expected);
-    for (enum way way = LIBTIFF; way < WAYS; way++)
+    for (enum way way = LIBTIFF; way < ways; way++)
         compare_pixels(content, way);
-    time_ways(read_by, content, WAYS, repetitions, content->median);
+    time_ways(read_by, content, (int)ways, repetitions, content->median);
 }
 
 /* ---- receiving: a file of 2 MiB by its blocks, in two orders */
@@ -376,6 +404,21 @@ static void print_speeds(const struct content *contents)
                ratio(content, PATCHY_WHOLE), speed(content, LIBTIFF), speed(content, STRICT), speed(content, PATCHY_WHOLE));
 }
 
+/* The time of this build over that of the one before. */
+static double change(const struct content *content, enum way way)
+{
+    return content->median[way] / content->median[way - STRICT + STRICT_BEFORE];
+}
+
+static void print_changes(const struct content *contents)
+{
+    printf("\n| this build's time / that of the one before | inspect + decode | patchy, all came | patchy, 5%% lost |\n");
+    printf("|---|---:|---:|---:|\n");
+    for (const struct content *content = contents; content < contents + CONTENTS; content++)
+        printf("| %s | %.3f | %.3f | %.3f |\n", content->name, change(content, STRICT), change(content, PATCHY_WHOLE),
+               change(content, PATCHY_LOST));
+}
+
 /* The least ratio of the two readings of whole pictures. */
 static double least_ratio(const struct content *contents)
 {
@@ -452,6 +495,8 @@ int main(int arguments, char **argument)
     print_times(contents);
     print_speeds(contents);
     reads_fast = enough(least_ratio(contents), wanted);
+    if (WITH_BEFORE)
+        print_changes(contents);
     print_received(sendings);
     receives_fast = enough(least_ratio_of_receiver(sendings), wanted_of_receiver);
     return reads_fast && receives_fast ? 0 : 1;
