@@ -15,7 +15,7 @@ use picture::Format;
 mod charges;
 
 // The lengths of the lent buffers.
-#[derive(Drop)]
+#[derive(Clone, Copy)]
 pub struct Room {
     pub output: usize,
     pub scratch: usize,

@@ -1,4 +1,6 @@
 // Bytes of a lent buffer made 0: all of them, or rows of them that lie a pitch apart.
+#![tactic(auto)]
+
 ghost use Rattle.std.specs.Prelude.{◌≡◌, length, replicate};
 ghost use Rattle.lists.specs.Lists.{spread};
 ghost use Rattle.clearing.specs.Inner.{zero_row, Clearable};

@@ -8,7 +8,7 @@ ghost use Rattle.directory.specs.Inner.{Body, BodyIs, refused_directory};
 use checks::{INVALID, LIMIT, Told, Verdict};
 
 // What a directory gives; all 0 beside a refusal.
-#[derive(Drop)]
+#[derive(Clone, Copy)]
 pub struct Directory {
     pub told: Told,
     pub entries: usize,

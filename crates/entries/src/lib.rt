@@ -7,7 +7,7 @@ ghost use Rattle.entries.specs.Inner.{WordThere};
 use seen::Reach;
 
 // One value of an array: where it lies, or the number.
-#[derive(Drop)]
+#[derive(Clone, Copy)]
 pub enum Value {
     Outside,
     Missing,

@@ -1,4 +1,6 @@
 // Predictor 64: samples of 64 bits from either byte order into little-endian, the sums of prediction undone where asked for.
+#![tactic(auto)]
+
 ghost use Rattle.std.specs.Prelude.{◌≡◌, length};
 ghost use Rattle.lists.specs.Lists.{overlay};
 ghost use Rattle.checks.specs.Checks.{verdict};

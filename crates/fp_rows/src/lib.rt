@@ -1,4 +1,6 @@
 // The two passes of predictor 3 over rows: the sums along a row undone byte by byte, and its planes gathered into samples.
+#![tactic(auto)]
+
 ghost use Rattle.std.specs.Prelude.{◌≡◌, ◌*◌, ◌%◌, ◌<◌, ◌≤◌, length};
 ghost use Rattle.lists.specs.Lists.{per_row, overlay};
 ghost use Rattle.fp_rows.specs.FpRows.{summed_row, plane, gathered_row};

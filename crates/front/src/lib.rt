@@ -11,7 +11,7 @@ use picture::Format;
 use profile::Profile;
 
 // A refusal's number or the picture's format, and the units left.
-#[derive(Drop)]
+#[derive(Clone, Copy)]
 pub enum Found {
     Refused(u8, usize),
     Picture(Format, usize),

@@ -1,4 +1,6 @@
 // How a picture is cut into segments, and what a segment of some area needs and costs: numbers alone.
+#![tactic(auto)]
+
 ghost use Rattle.std.specs.Prelude.{◌≡◌, ◌*◌, ◌<◌, ◌≤◌};
 ghost use Rattle.checks.specs.Sizes.{within};
 ghost use Rattle.geometry.specs.Geometry.{most_side, most_area, pieces, rows_of};

@@ -6,7 +6,7 @@ use picture::Format;
 
 // What an inspection gives: the format (with the page's number of entries and the size of the output), the page, the size of
 // scratch, and the sum of the fees, which is what decode charges.
-#[derive(Drop)]
+#[derive(Clone, Copy)]
 pub struct Handle {
     pub format: Format,
     pub page: usize,
@@ -15,7 +15,7 @@ pub struct Handle {
 }
 
 // A refusal's number or the picture's handle, and the units left.
-#[derive(Drop)]
+#[derive(Clone, Copy)]
 pub enum Inspected {
     Refused(u8, usize),
     Picture(Handle, usize),

@@ -1,4 +1,6 @@
 // The two camera heads whose pictures are read, for colour and monochrome, and the numbers by which they differ.
+#![tactic(auto)]
+
 ghost use Rattle.std.specs.Prelude.{◌≡◌};
 ghost use Rattle.head.specs.Heads.{planes_of, bytes_of, channels_of, photometric_of};
 

@@ -7,7 +7,7 @@ ghost use Rattle.header.specs.Header.{limit_checks, begins, order_checks, header
 use checks::{INVALID, LIMIT, UNSUPPORTED, Verdict};
 
 // What a caller allows.
-#[derive(Drop)]
+#[derive(Clone, Copy)]
 pub struct Limits {
     pub max_input: usize,
     pub max_output: usize,
@@ -18,7 +18,7 @@ pub struct Limits {
 }
 
 // The byte order (whether the high byte comes first) and the place of the first directory.
-#[derive(Drop)]
+#[derive(Clone, Copy)]
 pub enum Start {
     Refused(u8),
     At(bool, usize),

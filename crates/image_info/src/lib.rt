@@ -9,7 +9,7 @@ use header::Limits;
 
 // What an image carries besides the file: the number of the inspection's answer, the limits that it was made under, and the handle.
 // After a refusal all but the number is 0, and the head is that for colour. Its methods are upstream's getters.
-#[derive(Drop)]
+#[derive(Clone, Copy)]
 pub struct Info {
     pub number: u8,
     pub limits: Limits,
@@ -17,7 +17,7 @@ pub struct Info {
 }
 
 // Pictures of this profile have no alpha.
-#[derive(Drop)]
+#[derive(Clone, Copy)]
 pub enum AlphaMode {
     None,
 }

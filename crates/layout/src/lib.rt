@@ -10,7 +10,7 @@ use profile::{Numbers, Shape};
 use tags::{STRIP_BYTE_COUNTS, STRIP_OFFSETS, TILE_BYTE_COUNTS, TILE_LENGTH, TILE_WIDTH};
 
 // Segments across and in all, and the bytes of the output.
-#[derive(Drop)]
+#[derive(Clone, Copy)]
 pub enum Counted {
     Refused(u8),
     Sizes(usize, usize, usize),

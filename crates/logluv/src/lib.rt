@@ -1,4 +1,6 @@
 // Accepted packets of a range expanded: the cursor over them, and decode into a lent buffer.
+#![tactic(auto)]
+
 ghost use Rattle.std.specs.Prelude.{◌≡◌, ◌<◌, ◌≤◌, length};
 ghost use Rattle.lists.specs.Lists.{overlay};
 ghost use Rattle.checks.specs.Checks.{verdict};
@@ -10,7 +12,7 @@ ghost use Rattle.logluv.specs.Inner.{Ranged, start_cursor, ahead, SoundCursor, O
 use checks::{OUTPUT_TOO_SMALL, Verdict};
 
 // A place in a range of accepted packets: where the next packet starts, and what is left of the one at hand.
-#[derive(Drop)]
+#[derive(Clone, Copy)]
 struct Cursor {
     at: usize,
     place: usize,
@@ -18,7 +20,7 @@ struct Cursor {
     repeat: bool,
 }
 
-#[derive(Drop)]
+#[derive(Clone, Copy)]
 struct Step {
     byte: u8,
     cursor: Cursor,

@@ -9,13 +9,13 @@ use image_info::Info;
 use plain_patchy::Answer;
 
 // The units at hand.
-#[derive(Drop)]
+#[derive(Clone, Copy)]
 pub struct Budget {
     pub remaining: usize,
 }
 
 // A file and what its inspection gave.
-#[derive(Drop)]
+#[derive(Clone, Copy)]
 pub struct LogluvImage<'a> {
     pub input: &'a [u8],
     pub info: Info,

@@ -1,4 +1,6 @@
 // Rows of pixels: all rows of a segment put into a picture, and planes converted into a lent buffer.
+#![tactic(auto)]
+
 ghost use Rattle.std.specs.Prelude.{◌≡◌, ◌*◌, ◌<◌, length};
 ghost use Rattle.lists.specs.Lists.{overlay, spread};
 ghost use Rattle.checks.specs.Checks.{verdict};

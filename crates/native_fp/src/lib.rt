@@ -1,4 +1,6 @@
 // Predictor 3: the sums along a row undone byte by byte, then its planes gathered into samples of the byte order asked for.
+#![tactic(auto)]
+
 ghost use Rattle.std.specs.Prelude.{◌≡◌, length};
 ghost use Rattle.lists.specs.Lists.{overlay};
 ghost use Rattle.checks.specs.Checks.{verdict};

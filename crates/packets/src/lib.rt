@@ -1,4 +1,6 @@
 // Packets of a range: what a control says, and their validation against a stride.
+#![tactic(auto)]
+
 ghost use Rattle.std.specs.Prelude.{◌≡◌, ◌-◌, ◌<◌, ◌≤◌, length};
 ghost use Rattle.checks.specs.Checks.{verdict};
 ghost use Rattle.packets.specs.Packets.{len_of, payload_of, room_of, packet_checks, range_checks};
@@ -25,7 +27,7 @@ fn payload_of(n: usize) -> usize
     if n < 128 { n } else { 1 }
 }
 
-#[derive(Drop)]
+#[derive(Clone, Copy)]
 pub struct Packet {
     pub control: usize,
     pub len: usize,

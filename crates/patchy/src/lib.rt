@@ -14,7 +14,7 @@ use header::Limits;
 use picture::Format;
 
 // The sides of a picture and of its blocks, the number of its segments, and the samples of a pixel.
-#[derive(Drop)]
+#[derive(Clone, Copy)]
 pub struct Sizes {
     pub width: usize,
     pub height: usize,
@@ -25,7 +25,7 @@ pub struct Sizes {
 }
 
 // A refusal's number or the picture's sizes, and the units left.
-#[derive(Drop)]
+#[derive(Clone, Copy)]
 pub enum Reading {
     Refused(u8, usize),
     Picture(Sizes, usize),

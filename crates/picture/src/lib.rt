@@ -8,7 +8,7 @@ ghost use Rattle.picture.specs.Inner.{Valid, visible_of};
 // A picture as its page's directory describes it: sizes, the places of the entries that hold the segments' offsets and counts,
 // the number of the directory's entries; tiles or strips, the file's byte order and the head that made it. These three stand
 // together, as a format that is handed on then takes less of the stack.
-#[derive(Drop)]
+#[derive(Clone, Copy)]
 pub struct Format {
     pub width: usize,
     pub height: usize,
@@ -26,7 +26,7 @@ pub struct Format {
 }
 
 // The part of a segment that lies in the picture: its columns and rows, and the output byte that it begins with.
-#[derive(Drop)]
+#[derive(Clone, Copy)]
 pub struct Visible {
     pub columns: usize,
     pub rows: usize,

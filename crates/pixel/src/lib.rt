@@ -1,4 +1,6 @@
 // Pixels of either head: uv by a lent table, one pixel, and four of the colour head at once.
+#![tactic(auto)]
+
 ghost use Rattle.std.specs.Prelude.{◌≡◌, ◌++◌, ◌<◌, length};
 ghost use Rattle.lists.specs.Lists.{joined};
 ghost use Rattle.pixel.specs.Luv.{uv, mono_pixel, pixel};
@@ -51,7 +53,7 @@ pub fn put_mono(pair: &mut [u8], high: u8, low: u8)
 }
 
 // A pixel of the colour head as three numbers.
-#[derive(Drop)]
+#[derive(Clone, Copy)]
 struct Samples {
     light: u16,
     u: u16,

@@ -1,5 +1,7 @@
 // Rows of pixels of either head, with a lent table of uv. A row of the colour head is made in blocks, four pixels at a time, and its last pixels
 // one at a time.
+#![tactic(auto)]
+
 ghost use Rattle.std.specs.Prelude.{◌≡◌, ◌/◌, ◌%◌, ◌<◌, length};
 ghost use Rattle.lists.specs.Lists.{joined};
 ghost use Rattle.head.specs.Heads.{colour_head, mono_head};

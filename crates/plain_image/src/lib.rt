@@ -9,14 +9,14 @@ use image_info::Info;
 use picture::Format;
 
 // What inspection gives, and the units left.
-#[derive(Drop)]
+#[derive(Clone, Copy)]
 pub struct Inspection {
     pub info: Info,
     pub left: usize,
 }
 
 // The number of a decode's answer, and the units left.
-#[derive(Drop)]
+#[derive(Clone, Copy)]
 pub struct Decoded {
     pub number: u8,
     pub left: usize,

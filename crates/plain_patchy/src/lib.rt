@@ -6,14 +6,14 @@ use header::Limits;
 use patchy::{Reading, Sizes};
 
 // The answer of patchy reading: 0 and the picture's sizes, or a refusal's number and sizes of 0.
-#[derive(Drop)]
+#[derive(Clone, Copy)]
 pub struct Answer {
     pub number: u8,
     pub sizes: Sizes,
 }
 
 // The answer of patchy reading, and the units left.
-#[derive(Drop)]
+#[derive(Clone, Copy)]
 pub struct Taken {
     pub answer: Answer,
     pub left: usize,

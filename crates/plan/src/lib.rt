@@ -10,21 +10,21 @@ use entries::Value;
 use picture::Format;
 
 // Offset and count of a segment's stored bytes, or the number of the check that refused them.
-#[derive(Drop)]
+#[derive(Clone, Copy)]
 pub enum Place {
     Refused(u8),
     Range(usize, usize),
 }
 
 // A segment's stored bytes and its fee.
-#[derive(Drop)]
+#[derive(Clone, Copy)]
 pub struct Plan {
     pub offset: usize,
     pub count: usize,
     pub fee: usize,
 }
 
-#[derive(Drop)]
+#[derive(Clone, Copy)]
 pub enum Planned {
     Refused(u8),
     Fine(Plan),

@@ -2,7 +2,7 @@
 use picture::Format;
 
 // The numbers of the scalar slots that the profile looks at, by name.
-#[derive(Drop)]
+#[derive(Clone, Copy)]
 pub struct Numbers {
     pub width: usize,
     pub height: usize,
@@ -19,7 +19,7 @@ pub struct Numbers {
 }
 
 // The picture's sides and those of a block, and the head that made it.
-#[derive(Drop)]
+#[derive(Clone, Copy)]
 pub struct Shape {
     pub width: usize,
     pub height: usize,
@@ -29,7 +29,7 @@ pub struct Shape {
     pub mono: bool,
 }
 
-#[derive(Drop)]
+#[derive(Clone, Copy)]
 pub enum Profile {
     Refused(u8),
     Picture(Format),

@@ -16,7 +16,7 @@ use plan::Place;
 
 // Good, with the offset and the count of its stored bytes; bytes in the file that did not come; bytes outside the file; packets
 // that are not accepted.
-#[derive(Drop)]
+#[derive(Clone, Copy)]
 pub enum Quality {
     Good(usize, usize),
     Missing,

@@ -1,4 +1,6 @@
 // The receiver of a bus: starts and blocks over a lent file buffer and map, and the replay of a recorded trace.
+#![tactic(auto)]
+
 ghost use Rattle.std.specs.Prelude.{◌≡◌, false, ◌+◌, ◌≤◌, length, take, drop};
 ghost use Rattle.checks.specs.Checks.{verdict};
 ghost use Rattle.trace.specs.Trace.{start, block};
@@ -9,14 +11,14 @@ use checks::{BLOCK_SIZE, INVALID, NO_SUCH_BLOCK, RECEIVER_TOO_SMALL, TRUNCATED, 
 use trace::Next;
 
 // Whether a start was accepted, and the length of its picture. By itself it holds nothing else: file buffer and map are lent.
-#[derive(Drop)]
+#[derive(Clone, Copy)]
 pub struct Receiver {
     pub started: bool,
     pub length: usize,
 }
 
 // The answer to a message or to a trace, and the receiver after it.
-#[derive(Drop)]
+#[derive(Clone, Copy)]
 pub struct Received {
     pub answer: Verdict,
     pub receiver: Receiver,

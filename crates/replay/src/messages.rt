@@ -8,7 +8,7 @@ use receiver::{Received, Receiver};
 use trace::Next;
 
 // The receiver, how many messages it was given, and how many of them it answered with 0, 10, 11 and 12.
-#[derive(Drop)]
+#[derive(Clone, Copy)]
 pub struct Progress {
     pub receiver: Receiver,
     pub messages: usize,
@@ -19,7 +19,7 @@ pub struct Progress {
 }
 
 // Why no further message was taken: the bytes are over, they end within it, or it begins with a byte that begins none.
-#[derive(Drop)]
+#[derive(Clone, Copy)]
 pub enum Stop {
     Over,
     Cut,
@@ -27,7 +27,7 @@ pub enum Stop {
 }
 
 // The same, how many bytes those messages have that were taken, and what came of them.
-#[derive(Drop)]
+#[derive(Clone, Copy)]
 pub struct Taken {
     pub stop: Stop,
     pub size: usize,

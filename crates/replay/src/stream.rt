@@ -12,14 +12,14 @@ use report::load::Loaded;
 const WINDOW: usize = 131072;
 
 // Where the trace ends: where no further message can be taken, or farther on than it was taken.
-#[derive(Drop)]
+#[derive(Clone, Copy)]
 pub enum End {
     At(Stop),
     Farther,
 }
 
 // Whether no read failed; where the trace ends, how many bytes the messages have that were taken, and what came of them.
-#[derive(Drop)]
+#[derive(Clone, Copy)]
 pub struct Replayed {
     pub good: bool,
     pub end: End,

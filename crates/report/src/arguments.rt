@@ -5,7 +5,7 @@ use crate::complain;
 use crate::load::Loaded;
 
 // What is to be written.
-#[derive(Drop)]
+#[derive(Clone, Copy)]
 pub enum Kind {
     Nothing,
     Pgm,

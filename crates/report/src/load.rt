@@ -4,7 +4,7 @@ ghost use Rattle.io.specs.Counts.{IsPrefixLen};
 use crate::complain;
 
 // Whether nothing failed, and how many bytes came.
-#[derive(Drop)]
+#[derive(Clone, Copy)]
 pub struct Loaded {
     pub good: bool,
     pub size: usize,

@@ -1,11 +1,13 @@
 // One row of predictor 64: its samples in their order, each with the one before it in its channel added where the sum goes on.
+#![tactic(auto)]
+
 ghost use Rattle.std.specs.Prelude.{◌≡◌, ◌+◌, ◌-◌, length, take, drop};
 ghost use Rattle.words64.specs.Words64.{number_from};
 ghost use Rattle.rows64.specs.Rows64.{row64};
 ghost use Rattle.rows64.specs.Inner.{Standing, Behind, RowFits, sample_sum};
 
 // Where a sample stands: its channel, and its column counted from where the sum starts anew.
-#[derive(Drop)]
+#[derive(Clone, Copy)]
 struct Place {
     channel: usize,
     since: usize,

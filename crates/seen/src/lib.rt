@@ -1,4 +1,6 @@
 // What is seen of a file under a delivery map: whether bytes lie in the file and came, and whether a map has the length that a file asks for.
+#![tactic(auto)]
+
 ghost use Rattle.std.specs.Prelude.{◌≡◌, ◌-◌, ◌<◌, length};
 ghost use Rattle.checks.specs.Checks.{verdict};
 ghost use Rattle.seen.specs.Seen.{seen, blocks_in, block_length, map_length, map_checks, block_came, also_came, arrived, whole, reach_of, there};
@@ -6,7 +8,7 @@ ghost use Rattle.seen.specs.Seen.{seen, blocks_in, block_length, map_length, map
 use checks::Verdict;
 
 // Where the bytes asked for are: in the file and arrived, not all in the file, or in it and not all arrived.
-#[derive(Drop)]
+#[derive(Clone, Copy)]
 pub enum Reach {
     Inside,
     Outside,

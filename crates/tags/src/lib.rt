@@ -49,7 +49,7 @@ const TAGS: [usize; 19] = [
 ];
 
 // The place of the entry of each slot, 0 for a slot whose tag is absent: no entry lies at 0.
-#[derive(Drop)]
+#[derive(Clone, Copy)]
 pub struct Tags {
     pub good: bool,
     pub slots: [usize; 19],

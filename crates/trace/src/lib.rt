@@ -1,11 +1,13 @@
 // The messages of a recorded trace, one after the other. Numbers are little-endian.
+#![tactic(auto)]
+
 ghost use Rattle.std.specs.Prelude.{◌≡◌, ◌<◌, length, drop};
 ghost use Rattle.words64.specs.Words64.{number_from};
 ghost use Rattle.trace.specs.Trace.{start_in, block_in, next_of};
 
 // What a trace begins with: nothing, a message that is cut, a byte that begins no message, a start with its length, or a block with
 // its number and its size.
-#[derive(Drop)]
+#[derive(Clone, Copy)]
 pub enum Next {
     Over,
     Cut,

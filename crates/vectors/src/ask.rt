@@ -1,7 +1,7 @@
 // What a reading is asked for: the first eight numbers of a record.
 use header::Limits;
 
-#[derive(Drop)]
+#[derive(Clone, Copy)]
 pub struct Ask {
     pub page: usize,
     pub limits: Limits,

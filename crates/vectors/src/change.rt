@@ -4,7 +4,7 @@ use handle::Handle;
 use header::Limits;
 use picture::Format;
 
-#[derive(Drop)]
+#[derive(Clone, Copy)]
 pub struct Change {
     pub field: usize,
     pub value: usize,

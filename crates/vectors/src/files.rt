@@ -7,7 +7,7 @@ use crate::walk::Kind;
 use crate::{paths, pictures, walk};
 
 // Records of a kind, or a picture that takes at most so many units.
-#[derive(Drop)]
+#[derive(Clone, Copy)]
 pub enum Content {
     Records(Kind),
     Picture(usize),

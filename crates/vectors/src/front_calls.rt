@@ -9,7 +9,7 @@ use seen::Reach;
 // A range is looked for in a file of zeros, at most this long.
 const ROOM: usize = 4096;
 
-#[derive(Drop)]
+#[derive(Clone, Copy)]
 pub enum Front {
     Format,
     Range,

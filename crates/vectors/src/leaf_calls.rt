@@ -2,7 +2,7 @@
 use crate::lent::{FILL, ROOM};
 use crate::line::{put, put_verdict, show};
 
-#[derive(Drop)]
+#[derive(Clone, Copy)]
 pub enum Leaf {
     Packets,
     Planes,
@@ -12,7 +12,7 @@ pub enum Leaf {
 }
 
 // The numbers of a record: the call's own first, then how many bytes the lent buffers have.
-#[derive(Drop)]
+#[derive(Clone, Copy)]
 struct Call {
     a: usize,
     b: usize,

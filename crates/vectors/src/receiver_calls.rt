@@ -11,7 +11,7 @@ const TAIL: u8 = 90;
 
 const LONGEST: usize = 66560;
 
-#[derive(Drop)]
+#[derive(Clone, Copy)]
 pub enum Message {
     Start,
     Block,

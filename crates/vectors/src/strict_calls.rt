@@ -9,7 +9,7 @@ use handle::{Handle, Inspected};
 use header::Limits;
 use picture::Format;
 
-#[derive(Drop)]
+#[derive(Clone, Copy)]
 pub enum Strict {
     Reading,
     Forged,
@@ -17,7 +17,7 @@ pub enum Strict {
 }
 
 // What decode is given: units, and how many bytes the lent buffers have.
-#[derive(Drop)]
+#[derive(Clone, Copy)]
 struct Lent {
     units: usize,
     output: usize,

@@ -15,7 +15,7 @@ const TAG: usize = 16;
 const HEAD: usize = 40;
 
 // What a file's records are, and so which functions they go through.
-#[derive(Drop)]
+#[derive(Clone, Copy)]
 pub enum Kind {
     Leaf(Leaf),
     Front(Front),

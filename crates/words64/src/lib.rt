@@ -1,4 +1,6 @@
 // Eight bytes and the number of 64 bits that they stand for.
+#![tactic(auto)]
+
 ghost use Rattle.std.specs.Prelude.{◌≡◌, ◌+◌, ◌*◌, length};
 ghost use Rattle.words64.specs.Words64.{word, digits};
 

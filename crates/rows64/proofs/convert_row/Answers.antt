@@ -1,0 +1,20 @@
+-- Sample by sample in the order of the row: each is its value, or that and the sample before it, which is read back from what is written.
+use Rattle.rows64.proofs.Written.{sampling_none, sampling_behind, sampling_more, sampling_all}
+use Rattle.rows64.proofs.convert_row.Goals as goal
+
+pub loop-at-init : goal.loop-at-init
+loop-at-init c = search sampling_none
+
+pub sum_at-s-requires : goal.sum_at-s-requires
+sum_at-s-requires c = search sampling_behind
+
+pub loop-at-preserved : goal.loop-at-preserved
+loop-at-preserved c = let a = c in
+    let b = a in
+    let d = b.before.before.before in
+    let e = d.before.before in
+    sampling_more _ _ _ _ _ _ _ _ _ _ _ _ e.before.loop.invariant e.loop-test.true _ _ _ _ _ d.load.ensures d.load.type-inv b.sum-at.ensures
+    a.store.ensures c.after-p.ensures
+
+pub returns : goal.returns
+returns c = search sampling_all
