@@ -1,4 +1,6 @@
 // The limits on the whole file, then the first eight bytes: byte order and first directory.
+#![tactic(auto)]
+
 ghost use Rattle.std.specs.Prelude.{◌≡◌, length};
 ghost use Rattle.checks.specs.Checks.{verdict};
 ghost use Rattle.seen.specs.Seen.{seen, There};

@@ -75,7 +75,7 @@ fn undo(
     out: &mut [u8],
 )
     requires { Sized row ch bytes (length raw.now) (length scratch.old) (length out.old) }
-    ensures scratch_after_lem { scratch.new ≡ overlay (summed row ch raw.now) scratch.old }
+    ensures scratch_after { scratch.new ≡ overlay (summed row ch raw.now) scratch.old }
     ensures out_after { out.new ≡ overlay (gathered row ch bytes little raw.now) out.old }
 {
     let len = raw.len();

@@ -1,4 +1,6 @@
 // What the vector programs share: numbers in the records of their files, eight bytes each, the least significant first; and a checksum.
+#![tactic(auto)]
+
 ghost use Rattle.std.specs.Prelude.{◌≡◌, [], ◌<◌, ◌≤◌};
 ghost use Rattle.lists.specs.Lists.{lesser};
 ghost use Rattle.seen.specs.Seen.{seen, There};

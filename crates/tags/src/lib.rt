@@ -1,4 +1,6 @@
 // The slots by name, and the entries of a directory by slot: each known tag at most once and with a type.
+#![tactic(auto)]
+
 ghost use Rattle.std.specs.Prelude.{◌≡◌, ◌+◌, ◌*◌, ◌≤◌};
 ghost use Rattle.seen.specs.Seen.{seen, There};
 ghost use Rattle.tags.specs.Tags.{slot_of};

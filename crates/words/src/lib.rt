@@ -1,4 +1,6 @@
 // Words of two and of four bytes in either byte order, where these bytes of a file are there.
+#![tactic(auto)]
+
 ghost use Rattle.std.specs.Prelude.{◌≡◌, ◌<◌};
 ghost use Rattle.seen.specs.Seen.{seen, There, two, four};
 

@@ -6,13 +6,13 @@ use borrow.Author.Rules.{rules}
 use Rattle.logluv.proofs.decode.Goals as goal
 
 pub returns-then-out-needed : goal.returns-then-out-needed
-returns-then-out-needed c = (search verdict_calls, refl)
+returns-then-out-needed c = record { answer = search verdict_calls; buffer = refl }
 
 pub expand_range-requires : goal.expand_range-requires
 expand_range-requires c = (search ranged, search rules)
 
 pub returns-in-Refused : goal.returns-in-Refused
-returns-in-Refused c = (search verdict_calls, refl)
+returns-in-Refused c = record { answer = search verdict_calls; buffer = refl }
 
 pub returns-else-out-needed : goal.returns-else-out-needed
-returns-else-out-needed c = (search verdict_calls, search rules)
+returns-else-out-needed c = record { answer = search verdict_calls; buffer = search rules }

@@ -26,19 +26,19 @@ planes_of-requires c = search sizes
 pub overflow_mul-rows : goal.overflow_mul-rows
 overflow_mul-rows c = let s = c in
     let p = s in
-    let k = size_known p.before.before.before.before.args.mono _ _ _ p.before.bytes_of.ensures p.product3.ensures _ s.size-1.given.1 in
+    let k = size_known p.args.mono _ _ _ p.bytes_of.ensures p.product3.ensures _ s.in-Fits.is in
     search (k, sizes)
 
 pub overflow_mul-planes_of : goal.overflow_mul-planes_of
 overflow_mul-planes_of c = let s = c in
     let p = s in
-    let k = size_known p.before.before.before.before.args.mono _ _ _ p.before.bytes_of.ensures p.product3.ensures _ s.size-1.given.1 in
+    let k = size_known p.args.mono _ _ _ p.bytes_of.ensures p.product3.ensures _ s.in-Fits.is in
     search (k, sizes)
 
 pub returns-then-planes-planes_of : goal.returns-then-planes-planes_of
 returns-then-planes-planes_of c = let s = c in
     let p = s in
-    let k = size_known p.before.before.before.before.args.mono _ _ _ p.before.bytes_of.ensures p.product3.ensures _ s.size-1.given.1 in
+    let k = size_known p.args.mono _ _ _ p.bytes_of.ensures p.product3.ensures _ s.in-Fits.is in
     search (k, sizes)
 
 pub returns-then-out-size : goal.returns-then-out-size
@@ -47,7 +47,7 @@ returns-then-out-size c = search sizes
 pub convert_rows-requires : goal.convert_rows-requires
 convert_rows-requires c = let s = c in
     let p = s in
-    let k = size_known p.before.before.before.before.args.mono _ _ _ p.before.bytes_of.ensures p.product3.ensures _ s.size-1.given.1 in
+    let k = size_known p.args.mono _ _ _ p.bytes_of.ensures p.product3.ensures _ s.in-Fits.is in
     search (k, c.if-size-eq0.false, sizes)
 
 pub shape_of-out : goal.shape_of-out

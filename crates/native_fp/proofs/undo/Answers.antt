@@ -12,4 +12,4 @@ gather_rows-requires c = let z = c.requires in
     (front_rows _ _ _ z.whole (search rules), omega (arith, z.whole, z.room), z.parts, z.samples)
 
 pub returns : goal.returns
-returns c = (search passes, search passes)
+returns c = record { scratch_after = search passes; out_after = search passes }

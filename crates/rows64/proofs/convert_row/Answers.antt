@@ -11,9 +11,9 @@ sum_at-s-requires c = search sampling_behind
 pub loop-at-preserved : goal.loop-at-preserved
 loop-at-preserved c = let a = c in
     let b = a in
-    let d = b.before.before.before in
-    let e = d.before.before in
-    sampling_more _ _ _ _ _ _ _ _ _ _ _ _ e.before.loop.invariant e.loop-test.true _ _ _ _ _ d.load.ensures d.load.type-inv b.sum-at.ensures
+    let d = b in
+    let e = d in
+    sampling_more _ _ _ _ _ _ _ _ _ _ _ _ e.loop-at.invariant e.loop-at-test.true _ _ _ _ _ d.load-v.ensures d.load-v.type_inv b.sum_at-s.ensures
     a.store.ensures c.after-p.ensures
 
 pub returns : goal.returns
