@@ -1,4 +1,6 @@
 // The number of each pixel's colour: a grey where its segment is good, else the colour of what came of the segment.
+#![tactic(auto)]
+
 ghost use Rattle.std.specs.Prelude.{◌≡◌, length, get_or, ◌≤◌};
 ghost use Rattle.lists.specs.Lists.{tabulate, overlay};
 ghost use Rattle.geometry.specs.Geometry.{pieces};

@@ -1,4 +1,6 @@
 // One directory: its count, its entries by slot, the next offset and its charge.
+#![tactic(auto)]
+
 ghost use Rattle.std.specs.Prelude.{◌≡◌, ◌+◌, ◌*◌};
 ghost use Rattle.checks.specs.Checks.{run, verdict};
 ghost use Rattle.seen.specs.Seen.{seen, There};

@@ -1,4 +1,6 @@
 // Type, count and values of an entry whose twelve bytes are there.
+#![tactic(auto)]
+
 ghost use Rattle.std.specs.Prelude.{◌≡◌, ◌<◌};
 ghost use Rattle.seen.specs.Seen.{seen, There};
 ghost use Rattle.entries.specs.Values.{count_at, numeric, has_values, size_of, place_of, word_at, scalar_of, value_is};

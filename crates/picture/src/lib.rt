@@ -1,4 +1,6 @@
 // A picture whose profile is read: its format, and what it says of a segment: rows, area, scratch, and the part that is visible.
+#![tactic(auto)]
+
 ghost use Rattle.std.specs.Prelude.{◌≡◌, ◌<◌, ◌≤◌};
 ghost use Rattle.lists.specs.Lists.{lesser};
 ghost use Rattle.geometry.specs.Geometry.{most_area};

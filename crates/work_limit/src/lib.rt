@@ -1,5 +1,7 @@
 // Upstream's bound on what an inspection charges, from the page and the limits alone: one part for the directories and the profile, one
 // for the segments.
+#![tactic(auto)]
+
 ghost use Rattle.std.specs.Prelude.{◌≡◌, ◌+◌, ◌*◌};
 ghost use Rattle.checks.specs.Sizes.{within};
 ghost use Rattle.work_limit.specs.WorkLimit.{work_bound};

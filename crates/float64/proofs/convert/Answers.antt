@@ -36,7 +36,7 @@ pub convert_rows-requires : goal.convert_rows-requires
 convert_rows-requires c = let a = c in
     let b = a in
     fitting _ _ _ _ _ _ (search rules) (omega arith) (search rules) (search rules) (search rules) _ b.product.ensures _ b.in-Fits.is
-    _ a.product-2.ensures _ a.in-Fits-2.is (omega arith) (omega arith)
+    _ a.product-2.ensures _ a.in-Fits-product.is (omega arith) (omega arith)
 
 pub returns : goal.returns
 returns c = record { answer = search accepted; buffer = search rules }
