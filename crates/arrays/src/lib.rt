@@ -1,4 +1,6 @@
 // The slots that may hold several values: step 4 of the profile, bits and format of the samples, and step 8, offsets and counts.
+#![tactic(auto)]
+
 ghost use Rattle.std.specs.Prelude.{◌≡◌};
 ghost use Rattle.checks.specs.Checks.{verdict};
 ghost use Rattle.seen.specs.Seen.{seen, There};

@@ -1,4 +1,6 @@
 // What passes the C face as words: the six limits, an answer's number, and a handle.
+#![tactic(auto)]
+
 ghost use Rattle.std.specs.Prelude.{◌≡◌};
 ghost use Rattle.checks.specs.Numbers.{verdict_number};
 ghost use Rattle.face_words.specs.Words.{limits_of, words_of, same_words};

@@ -1,4 +1,6 @@
 // The handle of a picture, the answer that gives it, and whether two handles are equal, field by field.
+#![tactic(auto)]
+
 ghost use Rattle.std.specs.Prelude.{◌≡◌, ◌&&◌};
 ghost use Rattle.handle.specs.Handle.{same_bool, same_sides, same_cut, same_entries, same_format, same_handle};
 

@@ -1,4 +1,6 @@
 // What an image carries besides the file, and upstream's getters.
+#![tactic(auto)]
+
 ghost use Rattle.std.specs.Prelude.{◌≡◌, false};
 ghost use Rattle.head.specs.Heads.{channels_of};
 ghost use Rattle.image_info.specs.Alpha.{alpha_number};

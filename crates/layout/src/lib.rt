@@ -1,4 +1,6 @@
 // The profile's steps over numbers and the shape alone: 2 and 3, then 5, 6 and 7.
+#![tactic(auto)]
+
 ghost use Rattle.std.specs.Prelude.{◌≡◌, ◌<◌};
 ghost use Rattle.checks.specs.Checks.{verdict};
 ghost use Rattle.profile.specs.Profile.{kind_is, has_head, head_in, step2, step3, shape_of, step5, step6};

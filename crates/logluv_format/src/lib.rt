@@ -1,4 +1,6 @@
 // The profile: from the slots of the page's directory to the format of a LogLuv picture, in eight steps, each with the number of its refusal.
+#![tactic(auto)]
+
 ghost use Rattle.std.specs.Prelude.{◌≡◌};
 ghost use Rattle.seen.specs.Seen.{seen};
 ghost use Rattle.tags.specs.Inner.{SlotsThere};

@@ -1,4 +1,6 @@
 // The strict check of a segment of a LogLuv picture: its plan, its fee, its packets.
+#![tactic(auto)]
+
 ghost use Rattle.std.specs.Prelude.{◌≡◌, ◌∷◌, ◌<◌};
 ghost use Rattle.checks.specs.Checks.{pay, run, verdict};
 ghost use Rattle.seen.specs.Seen.{seen};

@@ -1,4 +1,6 @@
 // A segment put into its place in the picture: its planes as pixels, or zeros where it is blank.
+#![tactic(auto)]
+
 ghost use Rattle.std.specs.Prelude.{◌≡◌, [], ◌<◌, ◌≤◌, length};
 ghost use Rattle.picture.specs.Picture.{needed_of, painted};
 ghost use Rattle.picture.specs.Inner.{Valid};

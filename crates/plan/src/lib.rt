@@ -1,4 +1,6 @@
 // The plan of a segment: where its stored bytes lie and what it costs, or the number of the check that refuses it.
+#![tactic(auto)]
+
 ghost use Rattle.std.specs.Prelude.{◌≡◌, ◌<◌};
 ghost use Rattle.seen.specs.Seen.{seen};
 ghost use Rattle.picture.specs.Inner.{Readable};

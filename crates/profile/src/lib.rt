@@ -1,4 +1,6 @@
 // What the profile speaks of: the numbers of the scalar slots, the shape of a picture and its blocks, and the answer.
+#![tactic(auto)]
+
 use picture::Format;
 
 // The numbers of the scalar slots that the profile looks at, by name.

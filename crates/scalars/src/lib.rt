@@ -1,4 +1,6 @@
 // The profile's first step, the scalar slots: each is absent, which gives its default, or a single value of type 3 or 4.
+#![tactic(auto)]
+
 ghost use Rattle.std.specs.Prelude.{◌≡◌, ◌<◌, get_or};
 ghost use Rattle.checks.specs.Checks.{verdict};
 ghost use Rattle.seen.specs.Seen.{seen};

@@ -1,4 +1,6 @@
 // The walk over directories to a page.
+#![tactic(auto)]
+
 ghost use Rattle.seen.specs.Seen.{seen};
 ghost use Rattle.tiff.specs.Walk.{PageIs};
 

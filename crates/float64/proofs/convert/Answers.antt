@@ -33,10 +33,8 @@ pub returns-then-out-size : goal.returns-then-out-size
 returns-then-out-size c = record { answer = search out_short; buffer = refl }
 
 pub convert_rows-requires : goal.convert_rows-requires
-convert_rows-requires c = let a = c in
-    let b = a in
-    fitting _ _ _ _ _ _ (search rules) (omega arith) (search rules) (search rules) (search rules) _ b.product.ensures _ b.in-Fits.is
-    _ a.product-2.ensures _ a.in-Fits-product.is (omega arith) (omega arith)
+convert_rows-requires c = fitting _ _ _ _ _ _ (search rules) (omega arith) (search rules) (search rules) (search rules) _ c.product.ensures _ c.in-Fits.is
+    _ c.product-2.ensures _ c.in-Fits-product.is (omega arith) (omega arith)
 
 pub returns : goal.returns
 returns c = record { answer = search accepted; buffer = search rules }

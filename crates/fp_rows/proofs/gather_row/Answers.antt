@@ -16,8 +16,7 @@ pub bounds-planes-plane : goal.bounds-planes-plane
 bounds-planes-plane c = search gathers
 
 pub overflow_add-s : goal.overflow_add-s
-overflow_add-s c = let b = c in
-    let h = gathering_in _ _ _ _ _ _ _ _ _ b.loop-k.invariant b.plane_of-plane.result (search rules) (search rules) in
+overflow_add-s c = let h = gathering_in _ _ _ _ _ _ _ _ _ c.loop-k.invariant c.plane_of-plane.result (search rules) (search rules) in
     omega arith
 
 pub loop-k-preserved-then-b-bytes : goal.loop-k-preserved-then-b-bytes

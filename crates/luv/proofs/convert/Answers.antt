@@ -24,30 +24,22 @@ pub planes_of-requires : goal.planes_of-requires
 planes_of-requires c = search sizes
 
 pub overflow_mul-rows : goal.overflow_mul-rows
-overflow_mul-rows c = let s = c in
-    let p = s in
-    let k = size_known p.args.mono _ _ _ p.bytes_of.ensures p.product3.ensures _ s.in-Fits.is in
+overflow_mul-rows c = let k = size_known c.args.mono _ _ _ c.bytes_of.ensures c.product3.ensures _ c.in-Fits.is in
     search (k, sizes)
 
 pub overflow_mul-planes_of : goal.overflow_mul-planes_of
-overflow_mul-planes_of c = let s = c in
-    let p = s in
-    let k = size_known p.args.mono _ _ _ p.bytes_of.ensures p.product3.ensures _ s.in-Fits.is in
+overflow_mul-planes_of c = let k = size_known c.args.mono _ _ _ c.bytes_of.ensures c.product3.ensures _ c.in-Fits.is in
     search (k, sizes)
 
 pub returns-then-planes-planes_of : goal.returns-then-planes-planes_of
-returns-then-planes-planes_of c = let s = c in
-    let p = s in
-    let k = size_known p.args.mono _ _ _ p.bytes_of.ensures p.product3.ensures _ s.in-Fits.is in
+returns-then-planes-planes_of c = let k = size_known c.args.mono _ _ _ c.bytes_of.ensures c.product3.ensures _ c.in-Fits.is in
     search (k, sizes)
 
 pub returns-then-out-size : goal.returns-then-out-size
 returns-then-out-size c = search sizes
 
 pub convert_rows-requires : goal.convert_rows-requires
-convert_rows-requires c = let s = c in
-    let p = s in
-    let k = size_known p.args.mono _ _ _ p.bytes_of.ensures p.product3.ensures _ s.in-Fits.is in
+convert_rows-requires c = let k = size_known c.args.mono _ _ _ c.bytes_of.ensures c.product3.ensures _ c.in-Fits.is in
     search (k, c.if-size-eq0.false, sizes)
 
 pub shape_of-out : goal.shape_of-out

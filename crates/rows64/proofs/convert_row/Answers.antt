@@ -9,12 +9,8 @@ pub sum_at-s-requires : goal.sum_at-s-requires
 sum_at-s-requires c = search sampling_behind
 
 pub loop-at-preserved : goal.loop-at-preserved
-loop-at-preserved c = let a = c in
-    let b = a in
-    let d = b in
-    let e = d in
-    sampling_more _ _ _ _ _ _ _ _ _ _ _ _ e.loop-at.invariant e.loop-at-test.true _ _ _ _ _ d.load-v.ensures d.load-v.type_inv b.sum_at-s.ensures
-    a.store.ensures c.after-p.ensures
+loop-at-preserved c = sampling_more _ _ _ _ _ _ _ _ _ _ _ _ c.loop-at.invariant c.loop-at-test.true _ _ _ _ _ c.load-v.ensures c.load-v.type_inv c.sum_at-s.ensures
+    c.store.ensures c.after-p.ensures
 
 pub returns : goal.returns
 returns c = search sampling_all
