@@ -1,4 +1,6 @@
 // Everything that can refuse a patchy reading, in order, before anything is written: the format to read, and the units left.
+#![tactic(auto)]
+
 ghost use Rattle.std.specs.Prelude.{◌≡◌, length};
 ghost use Rattle.checks.specs.Checks.{run, verdict};
 ghost use Rattle.seen.specs.Seen.{seen};

@@ -1,4 +1,6 @@
 // The calls of the C face that read no file, with numbers for their answers: the bound on inspection's charge and both predictors.
+#![tactic(auto)]
+
 ghost use Rattle.face_leaves.specs.Leaves.{WorkLimit, Predictor64, Predictor3};
 
 use checks::{LIMIT, Size};

@@ -1,4 +1,6 @@
 // The calls of the C face over a receiver, with its state as two words and numbers for its answers.
+#![tactic(auto)]
+
 ghost use Rattle.std.specs.Prelude.{◌≡◌};
 ghost use Rattle.trace.specs.Trace.{start, block};
 ghost use Rattle.face_receiver.specs.Reception.{receiver_of, receiver_words, Receive, Replay};

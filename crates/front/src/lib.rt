@@ -1,4 +1,6 @@
 // The front part of every reading: header, directories and profile, from a file's bytes to the format of its picture.
+#![tactic(auto)]
+
 ghost use Rattle.std.specs.Prelude.{◌≡◌};
 ghost use Rattle.seen.specs.Seen.{seen};
 ghost use Rattle.tags.specs.Inner.{SlotsThere};

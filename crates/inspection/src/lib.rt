@@ -1,4 +1,6 @@
 // Strict inspection over what is seen of a file: all that can refuse a page, in order, and its handle; and whether a handle is what it gives.
+#![tactic(auto)]
+
 ghost use Rattle.std.specs.Prelude.{◌≡◌, ◌-◌, ◌≤◌};
 ghost use Rattle.checks.specs.Checks.{run};
 ghost use Rattle.seen.specs.Seen.{seen};

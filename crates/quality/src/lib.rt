@@ -1,4 +1,6 @@
 // The quality of one segment under a delivery map, and what it is charged.
+#![tactic(auto)]
+
 ghost use Rattle.std.specs.Prelude.{◌≡◌, ◌<◌};
 ghost use Rattle.checks.specs.Checks.{verdict};
 ghost use Rattle.checks.specs.Sizes.{within};

@@ -1,4 +1,6 @@
 // A segment whose packets are accepted, shown: by way of scratch into its place in the picture.
+#![tactic(auto)]
+
 ghost use Rattle.std.specs.Prelude.{◌≡◌, ◌≤◌, length};
 ghost use Rattle.lists.specs.Lists.{overlay};
 ghost use Rattle.packets.specs.Packets.{part};
