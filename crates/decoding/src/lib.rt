@@ -1,4 +1,6 @@
 // Strict decode over what is seen of a file: the handle, the buffers, the charge, then the picture.
+#![tactic(auto)]
+
 ghost use Rattle.std.specs.Prelude.{◌≡◌, length, replicate};
 ghost use Rattle.lists.specs.Lists.{overlay};
 ghost use Rattle.checks.specs.Checks.{run};

@@ -76,7 +76,7 @@ module _ (v : Seen) (b : Bool) (first page : ℕ) (l : Limits) (left : ℕ) (d :
 
   pub page_refused : (e u : ℕ) → d.told ≡ ToldIs.Refused e u → Refused e u ≡ found_page v b first page l left
   unfolding page_checks walk profile
-  page_refused e u q = rw (stops walk profile left e u (sym is.ToldIs ∙ q))
+  page_refused e u q = rw (stops walk profile left e u (sym is.told_is ∙ q))
 
   module _ (u : ℕ) (q : d.told ≡ ToldIs.Passed u) where
     entries_is : d.entries ≡ entries_at v b (page_at v b page first)
@@ -86,11 +86,11 @@ module _ (v : Seen) (b : Bool) (first page : ℕ) (l : Limits) (left : ℕ) (d :
     slots_is = (rw q at is).slots_are
 
     pub page_slots : SlotsThere v d.slots
-    page_slots = rw slots_is (page_there v b l.max_tags page first left u (sym is.ToldIs ∙ q))
+    page_slots = rw slots_is (page_there v b l.max_tags page first left u (sym is.told_is ∙ q))
 
     pub page_found : {r : Found} → r ≡ found_paid v b d.entries d.slots l u → r ≡ found_page v b first page l left
     unfolding page_checks walk profile
-    page_found e = rw (then walk profile left u (sym is.ToldIs ∙ q)) (rw (entries_is, slots_is) at e)
+    page_found e = rw (then walk profile left u (sym is.told_is ∙ q)) (rw (entries_is, slots_is) at e)
 
 -- the header, then the page
 header_refused_at : (e : ℕ) (b : Bool) (n : ℕ) → StartIs.Refused e ≡ StartIs.At b n → ⊥

@@ -1,5 +1,6 @@
 // One segment of a patchy reading: its number, and its pixels or zeros put into the picture.
 #![tactic(auto)]
+
 ghost use Rattle.std.specs.Prelude.{◌≡◌, ◌<◌, ◌≤◌, length};
 ghost use Rattle.lists.specs.Lists.{overlay};
 ghost use Rattle.seen.specs.Seen.{seen};
