@@ -12,7 +12,7 @@ help:
 	@echo 'make replay         prove and build the program bin/replay, which replays a trace and shows the picture that came'
 	@echo 'make replay-test    run it on whole, cut, long and broken traces, and compare what it prints'
 	@echo 'make png            have another reader read the PNG files that bin/strips writes (needs python3, netpbm)'
-	@echo 'make test           prove every crate from nothing, try every must-fail edit, run every program: the gate'
+	@echo 'make test           prove every crate, try every must-fail edit, run every program: the gate'
 	@echo 'make more           what the gate does not run: every other test of this list, without the two measurements at its end (some minutes)'
 	@echo 'make vectors        compute the expected answers of the vectors anew, compare, and try mistakes against them (needs python3)'
 	@echo 'make vectors-write  write them instead (needs python3)'
@@ -85,7 +85,7 @@ vectors-write:
 	python3 tests/trace.py --write
 
 format:
-	rt fmt
+	@for crate in crates/*/; do (cd "$$crate" && rt fmt) || exit; done
 
 lib:
 	@archive=$$(tools/archive) && echo "for programs of this machine: $$archive"

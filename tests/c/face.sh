@@ -40,11 +40,14 @@ fi
 gcc -E -P include/chelmesut.h | tr '\n' ' ' | sed 's/;/;\n/g' | sed -n 's/^ *uint64_t \(chelmesut_[a-z0-9_]*\)(\(.*\));$/\1,\2/p' |
     awk -F ', *' '{ line = $1; for (i = 2; i <= NF; i++) { sub(/\[[0-9]*\]$/, "", $i); sub(/.*[ *]/, "", $i); line = line " " $i } print line }' \
         >"$work/header.names"
-awk '/^pub extern "C" fn / { sub(/.*fn /, ""); sub(/\(.*/, ""); line = $0; inside = 1; next }
-     inside && /^\)/ { print line; inside = 0 }
-     inside { name = $1; sub(/:$/, "", name); line = line " " name; if (/: &(mut )?\[u8\],$/) line = line " " name "_len" }' \
-    crates/chelmesut/src/lib.rt >"$work/proved.names"
-diff "$work/header.names" "$work/proved.names" || die "the header's arguments, above, are not those of crates/chelmesut, below"
+for crate in chelmesut chelmesut_c; do # the library, and what exports it to C
+    awk '/^pub (extern "C" )?fn / { sub(/.*fn /, ""); sub(/\(.*/, ""); line = $0; inside = 1; next }
+         inside && /^\)/ { print line; inside = 0 }
+         inside { name = $1; sub(/:$/, "", name); line = line " " name; if (/: &(mut )?\[u8\],$/) line = line " " name "_len" }' \
+        crates/$crate/src/lib.rt >"$work/$crate.names"
+    diff "$work/header.names" "$work/$crate.names" || die "the header's arguments, above, are not those of crates/$crate, below"
+done
+[ "$(grep -c '^pub extern "C" fn' crates/chelmesut_c/src/lib.rt)" -eq 9 ] || die "not nine exports"
 [ "$(wc -l <"$work/header.names")" -eq 9 ] || die "not nine functions"
 
 version=$(tools/version)

@@ -1,5 +1,5 @@
 // The C face of the reader: each function of include/chelmesut.h is one call of the proved library, with numbers for its answers.
-// A C caller passes a slice as a pointer and a length, and numbers of 64 bits.
+// The crate chelmesut_c exports them to C; crates in Rattle, and the theorems of promises, stand on these.
 ghost use Rattle.face_words.specs.Words.{limits_of};
 ghost use Rattle.chelmesut.specs.Face.{Inspect, Decode, ReadPatchy};
 ghost use Rattle.face_leaves.specs.Leaves.{WorkLimit, Predictor64, Predictor3};
@@ -11,8 +11,7 @@ use handle::Inspected;
 use patchy::Reading;
 
 // Strict inspection.
-#[unsafe(no_mangle)]
-pub extern "C" fn chelmesut_inspect(
+pub fn chelmesut_inspect(
     file: &[u8],
     page: usize,
     max_input: usize,
@@ -50,8 +49,7 @@ pub extern "C" fn chelmesut_inspect(
 }
 
 // Strict decode: words that are not a handle's 2, short buffers 6, the sum of the fees 7.
-#[unsafe(no_mangle)]
-pub extern "C" fn chelmesut_decode(
+pub fn chelmesut_decode(
     file: &[u8],
     page: usize,
     max_input: usize,
@@ -101,8 +99,7 @@ pub extern "C" fn chelmesut_decode(
 }
 
 // The reading with a delivery map.
-#[unsafe(no_mangle)]
-pub extern "C" fn chelmesut_read_patchy(
+pub fn chelmesut_read_patchy(
     file: &[u8],
     map: &[u8],
     page: usize,
@@ -153,8 +150,7 @@ pub extern "C" fn chelmesut_read_patchy(
 }
 
 // Upstream's bound on what inspection charges: above 2^64-1 it is 4.
-#[unsafe(no_mangle)]
-pub extern "C" fn chelmesut_work_limit(
+pub fn chelmesut_work_limit(
     page: usize,
     max_input: usize,
     max_output: usize,
@@ -180,8 +176,7 @@ pub extern "C" fn chelmesut_work_limit(
 }
 
 // The receiver: a picture begins.
-#[unsafe(no_mangle)]
-pub extern "C" fn chelmesut_receive_start(
+pub fn chelmesut_receive_start(
     file: &mut [u8],
     map: &mut [u8],
     receiver: &mut [usize; 2],
@@ -194,8 +189,7 @@ pub extern "C" fn chelmesut_receive_start(
 }
 
 // The receiver: a block comes.
-#[unsafe(no_mangle)]
-pub extern "C" fn chelmesut_receive_block(
+pub fn chelmesut_receive_block(
     file: &mut [u8],
     map: &mut [u8],
     receiver: &mut [usize; 2],
@@ -209,8 +203,7 @@ pub extern "C" fn chelmesut_receive_block(
 }
 
 // The receiver: a recorded trace, message by message.
-#[unsafe(no_mangle)]
-pub extern "C" fn chelmesut_replay(
+pub fn chelmesut_replay(
     trace: &[u8],
     file: &mut [u8],
     map: &mut [u8],
@@ -223,8 +216,7 @@ pub extern "C" fn chelmesut_replay(
 }
 
 // The 64-bit integer predictor.
-#[unsafe(no_mangle)]
-pub extern "C" fn chelmesut_predictor64(
+pub fn chelmesut_predictor64(
     raw: &[u8],
     width: usize,
     height: usize,
@@ -250,8 +242,7 @@ pub extern "C" fn chelmesut_predictor64(
 }
 
 // The floating predictor.
-#[unsafe(no_mangle)]
-pub extern "C" fn chelmesut_predictor3(
+pub fn chelmesut_predictor3(
     raw: &[u8],
     row: usize,
     channels: usize,

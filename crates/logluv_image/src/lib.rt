@@ -1,5 +1,7 @@
 // The named forms of the readers: an image that holds the lent file, and a budget that is lent and charged in place. Each call is
 // thin: it takes these apart, calls the plain form, and puts the units left into the budget.
+#![tactic(auto)]
+
 ghost use Rattle.std.specs.Prelude.{◌≡◌};
 ghost use Rattle.plain_image.specs.Image.{ImageInspected, ImageDecoded};
 ghost use Rattle.plain_patchy.specs.Read.{PatchyRead};
