@@ -1,5 +1,7 @@
 // The C face of the reader: each function of include/chelmesut.h is one call of the proved library, with numbers for its answers.
 // The crate chelmesut_c exports them to C; crates in Rattle, and the theorems of promises, stand on these.
+#![tactic(auto)]
+
 ghost use Rattle.face_words.specs.Words.{limits_of};
 ghost use Rattle.chelmesut.specs.Face.{Inspect, Decode, ReadPatchy};
 ghost use Rattle.face_leaves.specs.Leaves.{WorkLimit, Predictor64, Predictor3};

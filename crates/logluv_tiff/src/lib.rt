@@ -1,4 +1,6 @@
 // Strict reading of a whole file: inspection, decode of the handle that it gives, and both in one call.
+#![tactic(auto)]
+
 ghost use Rattle.std.specs.Prelude.{◌≡◌, [], length};
 ghost use Rattle.checks.specs.Checks.{run};
 ghost use Rattle.seen.specs.Seen.{seen};

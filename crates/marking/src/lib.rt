@@ -1,4 +1,6 @@
 // All segments of a patchy reading: each is read into its place and marked.
+#![tactic(auto)]
+
 ghost use Rattle.std.specs.Prelude.{◌≡◌, length};
 ghost use Rattle.lists.specs.Lists.{overlay};
 ghost use Rattle.seen.specs.Seen.{seen};

@@ -1,4 +1,6 @@
 // Patchy reading: a picture of which not every block came. Each segment is marked, and one that is not good is blank.
+#![tactic(auto)]
+
 ghost use Rattle.std.specs.Prelude.{◌≡◌, replicate};
 ghost use Rattle.lists.specs.Lists.{overlay};
 ghost use Rattle.seen.specs.Seen.{seen};

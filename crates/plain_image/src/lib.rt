@@ -1,4 +1,6 @@
 // The plain forms under the named ones: an image as its file and what it carries, and units by value that are handed back.
+#![tactic(auto)]
+
 ghost use Rattle.std.specs.Prelude.{◌≡◌};
 ghost use Rattle.plain_image.specs.Image.{refused, ImageInspected, ImageDecoded};
 
