@@ -1,4 +1,6 @@
 // The plain form under the named one of patchy reading: its answer as a number and sizes, and units by value that are handed back.
+#![tactic(auto)]
+
 ghost use Rattle.std.specs.Prelude.{◌≡◌};
 ghost use Rattle.plain_patchy.specs.Read.{no_sizes, PatchyRead};
 
