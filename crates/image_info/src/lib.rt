@@ -4,7 +4,7 @@
 ghost use Rattle.std.specs.Prelude.{◌≡◌, false};
 ghost use Rattle.head.specs.Heads.{channels_of};
 ghost use Rattle.image_info.specs.Alpha.{alpha_number};
-ghost use Rattle.image_info.specs.declared.AlphaMode.TheVariants as alpha-is;
+ghost use Rattle.image_info.specs.declared.AlphaMode.TheVariants as AlphaIs;
 
 use handle::Handle;
 use header::Limits;
@@ -100,7 +100,7 @@ impl Info {
     }
 
     pub fn alpha_mode(self) -> AlphaMode
-        ensures { (result ≡ alpha-is.None) × (alpha_number result ≡ 0) }
+        ensures { (result ≡ AlphaIs.None) × (alpha_number result ≡ 0) }
     {
         AlphaMode::None
     }
