@@ -1,4 +1,6 @@
 // The grey picture as a file (PGM): a header in text, and a byte for each pixel.
+#![tactic(auto)]
+
 ghost use Rattle.std.specs.Prelude.{◌≡◌, ◌+◌, ◌-◌, ◌≤◌, length, take};
 ghost use Rattle.io.specs.Counts.{IsPrefixLen};
 ghost use Rattle.pgm.specs.Pgm.{decimal_of, header_of, greys_in, pgm_in};
