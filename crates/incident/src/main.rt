@@ -1,10 +1,14 @@
 // The incident: a picture of which one block did not come is read into the buffer that has the picture before it. The strip of
 // that block is marked and blank, and the other strips are right. tests/incident.py computes `stdout`; nothing expected is in here.
-ghost use Rattle.std.specs.Prelude.{◌≡◌, length};
-ghost use Rattle.io.specs.Counts.{IsPrefixLen};
+#![tactic(auto)]
+
+ghost use Rattle.std.specs.Prelude.{◌≡◌, ◌≤◌, IfOk, length};
 
 use header::Limits;
 use line::say;
+use std::io::{Read, Write};
+use std::rt::Files;
+use std::{fs, io};
 
 // What is written.
 mod line;
@@ -29,6 +33,9 @@ const END: usize = 23040;
 // More units than the picture takes.
 const UNITS: usize = 10000000;
 
+// A file has at most so many bytes: what follows them is not read.
+const FILE: usize = 65536;
+
 // Room for a picture. The contract gives its length, which lending it as a slice needs.
 fn new_picture() -> [u8; PICTURE]
     ensures { 1843200 ≡ length result }
@@ -36,18 +43,32 @@ fn new_picture() -> [u8; PICTURE]
     [0; PICTURE]
 }
 
-// The whole file at the start of the buffer; how many bytes there are.
-fn load(path: &[u8], file: &mut [u8]) -> usize
-    ensures { IsPrefixLen result file.new }
+// Reads until the buffer is full or the input ends; how many bytes there are.
+fn read_full(input: &mut impl Read, buffer: &mut [u8]) -> io::Result<usize>
+    ensures { IfOk result (λ n. n ≤ length buffer.new) }
 {
-    let fd = os::open_read(path);
-    if fd < 0 {
-        os::fail(path);
-        return 0;
+    let mut done: usize = 0;
+    while done < buffer.len() {
+        let n = input.read(&mut buffer[done..])?;
+        if n == 0 {
+            break;
+        }
+        done += n;
     }
-    let n = io::read_full(fd, file);
-    libc::close(fd);
-    n
+    Ok(done)
+}
+
+// The whole file at the start of the buffer; how many bytes there are. A file that can't be opened is named on standard error.
+fn load(rt: &(impl Files + Eprint), path: &str, file: &mut [u8]) -> io::Result<usize>
+    ensures { IfOk result (λ n. n ≤ length file.new) }
+{
+    match fs::open(rt, path) {
+        Ok(mut input) => read_full(&mut input, file),
+        Err(error) => {
+            eprintln!(rt; "{path}: {error}")?;
+            Err(error)
+        }
+    }
 }
 
 // What stood in the lost block's place before the file came is still there.
@@ -60,7 +81,13 @@ fn leave_stale(stale: &[u8], file: &mut [u8]) {
 }
 
 // A reading into the picture's buffer: its answer, the quality of each strip, and what the buffer then has.
-fn show(what: &[u8], file: &[u8], map: &[u8], picture: &mut [u8]) {
+fn show(
+    out: &mut impl Write,
+    what: &[u8],
+    file: &[u8],
+    map: &[u8],
+    picture: &mut [u8],
+) -> io::Result<()> {
     let mut scratch = [0; SCRATCH];
     let mut quality = [0; STRIPS];
     let limits = Limits {
@@ -71,8 +98,8 @@ fn show(what: &[u8], file: &[u8], map: &[u8], picture: &mut [u8]) {
         max_tags: 20,
         max_segments: STRIPS,
     };
-    say(what);
-    line::put_reading(patchy::read(
+    say(out, what)?;
+    let reading = patchy::read(
         file,
         map,
         0,
@@ -81,52 +108,62 @@ fn show(what: &[u8], file: &[u8], map: &[u8], picture: &mut [u8]) {
         picture,
         &mut scratch,
         &mut quality,
-    ));
-    line::put_quality(&quality);
-    line::put_picture(picture);
+    );
+    line::put_reading(out, reading)?;
+    line::put_quality(out, &quality)?;
+    line::put_picture(out, picture)
 }
 
 // The camera's file without the lost block, read into the buffer that has the previous picture.
-fn show_patchy(what: &[u8], previous: &[u8], file: &[u8]) {
+fn show_patchy(out: &mut impl Write, what: &[u8], previous: &[u8], file: &[u8]) -> io::Result<()> {
     let mut picture = new_picture();
     show(
+        out,
         b"the previous picture, whole\n",
         previous,
         b"",
         &mut picture,
-    );
+    )?;
     let mut map = [1; BLOCKS];
     map[LOST] = 0;
-    show(what, file, &map, &mut picture);
+    show(out, what, file, &map, &mut picture)
 }
 
-fn show_whole(file: &[u8]) {
+fn show_whole(out: &mut impl Write, file: &[u8]) -> io::Result<()> {
     let mut picture = new_picture();
-    show(b"the camera's picture, whole\n", file, b"", &mut picture);
+    show(
+        out,
+        b"the camera's picture, whole\n",
+        file,
+        b"",
+        &mut picture,
+    )
 }
 
 // Both files: the camera's whole, without a block that has the previous file's bytes, and without the same that has others.
-fn run(previous: &[u8], file: &mut [u8]) {
+fn run(out: &mut impl Write, previous: &[u8], file: &mut [u8]) -> io::Result<()> {
     let others = [255; END];
-    show_whole(file);
+    show_whole(out, file)?;
     leave_stale(previous, file);
     show_patchy(
+        out,
         b"the camera's picture, block 44 lost, the previous file's bytes in its place\n",
         previous,
         file,
-    );
+    )?;
     leave_stale(&others, file);
     show_patchy(
+        out,
         b"the camera's picture, block 44 lost, other bytes in its place\n",
         previous,
         file,
-    );
+    )
 }
 
-fn main() {
-    let mut previous = io::large_buffer();
-    let mut file = io::large_buffer();
-    let n = load(b"previous.tif", &mut previous);
-    let m = load(b"camera.tif", &mut file);
-    run(&previous[..n], &mut file[..m]);
+fn main(rt: HostRuntime) -> io::Result<()> {
+    let mut previous = [0; FILE];
+    let mut file = [0; FILE];
+    let n = load(&rt, "previous.tif", &mut previous)?;
+    let m = load(&rt, "camera.tif", &mut file)?;
+    run(&mut io::writer(&rt), &previous[..n], &mut file[..m])
 }

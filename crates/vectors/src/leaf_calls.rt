@@ -1,6 +1,8 @@
 // The calls of packets, planes and predictors.
 use crate::lent::{FILL, ROOM};
 use crate::line::{put, put_verdict, show};
+use std::io;
+use std::io::Write;
 
 #[derive(Clone, Copy)]
 pub enum Leaf {
@@ -35,62 +37,108 @@ fn call_of(numbers: &[u8]) -> Call {
     }
 }
 
-fn run_packets(call: Call, input: &[u8], output: &mut [u8]) {
-    put_verdict(packets::validate(input, call.a, call.b, call.c, call.d));
-    put_verdict(logluv::decode(input, call.a, call.b, call.c, call.d, output));
-    show(output);
+fn run_packets(
+    out: &mut impl Write,
+    call: Call,
+    input: &[u8],
+    output: &mut [u8],
+) -> io::Result<()> {
+    put_verdict(
+        out,
+        packets::validate(input, call.a, call.b, call.c, call.d),
+    )?;
+    put_verdict(
+        out,
+        logluv::decode(input, call.a, call.b, call.c, call.d, output),
+    )?;
+    show(out, output)
 }
 
-fn run_planes(call: Call, input: &[u8], output: &mut [u8]) {
-    put_verdict(luv::convert(call.c == 1, input, call.a, call.b, output));
-    show(output);
+fn run_planes(out: &mut impl Write, call: Call, input: &[u8], output: &mut [u8]) -> io::Result<()> {
+    put_verdict(
+        out,
+        luv::convert(call.c == 1, input, call.a, call.b, output),
+    )?;
+    show(out, output)
 }
 
-fn put_uv(x: u8) {
-    put(b" ", pixel::expand_uv(x) as usize);
+fn put_uv(out: &mut impl Write, x: u8) -> io::Result<()> {
+    put(out, b" ", pixel::expand_uv(x) as usize)
 }
 
 // No buffer here: uv of each byte of the input by itself.
-fn run_uv(input: &[u8]) {
+fn run_uv(out: &mut impl Write, input: &[u8]) -> io::Result<()> {
     let mut i: usize = 0;
     while i < input.len() {
-        put_uv(input[i]);
+        put_uv(out, input[i])?;
         i += 1;
     }
+    Ok(())
 }
 
 // The last number has 1 for little-endian input, and 2 more for prediction.
-fn run_predictor64(call: Call, input: &[u8], output: &mut [u8]) {
+fn run_predictor64(
+    out: &mut impl Write,
+    call: Call,
+    input: &[u8],
+    output: &mut [u8],
+) -> io::Result<()> {
     let little = call.e % 2 == 1;
     let predict = call.e / 2 % 2 == 1;
-    put_verdict(float64::convert(
-        input, call.a, call.b, call.c, call.d, little, predict, output,
-    ));
-    show(output);
+    put_verdict(
+        out,
+        float64::convert(
+            input, call.a, call.b, call.c, call.d, little, predict, output,
+        ),
+    )?;
+    show(out, output)
 }
 
-fn run_predictor3(call: Call, input: &[u8], scratch: &mut [u8], output: &mut [u8]) {
-    put_verdict(native_fp::decode(input, call.a, call.b, call.c, call.d == 1, scratch, output));
-    show(output);
-    show(scratch);
+fn run_predictor3(
+    out: &mut impl Write,
+    call: Call,
+    input: &[u8],
+    scratch: &mut [u8],
+    output: &mut [u8],
+) -> io::Result<()> {
+    put_verdict(
+        out,
+        native_fp::decode(input, call.a, call.b, call.c, call.d == 1, scratch, output),
+    )?;
+    show(out, output)?;
+    show(out, scratch)
 }
 
-fn run_lent(leaf: Leaf, call: Call, input: &[u8], scratch: &mut [u8], output: &mut [u8]) {
+fn run_lent(
+    out: &mut impl Write,
+    leaf: Leaf,
+    call: Call,
+    input: &[u8],
+    scratch: &mut [u8],
+    output: &mut [u8],
+) -> io::Result<()> {
     match leaf {
-        Leaf::Packets => run_packets(call, input, output),
-        Leaf::Planes => run_planes(call, input, output),
-        Leaf::Uv => run_uv(input),
-        Leaf::Predictor64 => run_predictor64(call, input, output),
-        Leaf::Predictor3 => run_predictor3(call, input, scratch, output),
+        Leaf::Packets => run_packets(out, call, input, output),
+        Leaf::Planes => run_planes(out, call, input, output),
+        Leaf::Uv => run_uv(out, input),
+        Leaf::Predictor64 => run_predictor64(out, call, input, output),
+        Leaf::Predictor3 => run_predictor3(out, call, input, scratch, output),
     }
 }
 
 // Lends the parts that the record asks for, and makes its call.
-pub fn run(leaf: Leaf, numbers: &[u8], input: &[u8]) {
+pub fn run(out: &mut impl Write, leaf: Leaf, numbers: &[u8], input: &[u8]) -> io::Result<()> {
     let call = call_of(numbers);
     let mut output = [FILL; ROOM];
     let mut scratch = [FILL; ROOM];
     let n = records::least(call.output, ROOM);
     let m = records::least(call.scratch, ROOM);
-    run_lent(leaf, call, input, &mut scratch[0..m], &mut output[0..n]);
+    run_lent(
+        out,
+        leaf,
+        call,
+        input,
+        &mut scratch[0..m],
+        &mut output[0..n],
+    )
 }

@@ -1,37 +1,39 @@
 // What is written of numbers, checksums and answers that several groups have.
 use checks::Verdict;
-use libc::STDOUT_FILENO;
 use picture::Format;
+use std::io;
+use std::io::Write;
 
-pub fn say(word: &[u8]) {
-    io::write_all(STDOUT_FILENO, word);
+pub fn say(out: &mut impl Write, word: &[u8]) -> io::Result<()> {
+    out.write_all(word)
 }
 
-pub fn put_number(n: usize) {
-    io::print_decimal(STDOUT_FILENO, n as u64);
+pub fn put_number(out: &mut impl Write, n: usize) -> io::Result<()> {
+    write!(out, "{n}")
 }
 
-pub fn put(before: &[u8], n: usize) {
-    say(before);
-    put_number(n);
+pub fn put(out: &mut impl Write, before: &[u8], n: usize) -> io::Result<()> {
+    say(out, before)?;
+    put_number(out, n)
 }
 
 // In hexadecimal, with at least so many digits.
-pub fn put_hex(n: u64, digits: usize) {
-    io::print_hex(STDOUT_FILENO, n, digits);
+pub fn put_hex(out: &mut impl Write, n: u64, digits: usize) -> io::Result<()> {
+    write!(out, "{n:0digits$x}")
 }
 
-pub fn put_checksum(before: &[u8], buffer: &[u8]) {
-    say(before);
-    put_hex(records::crc::crc32(buffer) as u64, 8);
+pub fn put_checksum(out: &mut impl Write, before: &[u8], buffer: &[u8]) -> io::Result<()> {
+    say(out, before)?;
+    put_hex(out, records::crc::crc32(buffer) as u64, 8)
 }
 
-fn put_bytes(bytes: &[u8]) {
+fn put_bytes(out: &mut impl Write, bytes: &[u8]) -> io::Result<()> {
     let mut i: usize = 0;
     while i < bytes.len() {
-        put_hex(records::wide(bytes[i]) as u64, 2);
+        put_hex(out, records::wide(bytes[i]) as u64, 2)?;
         i += 1;
     }
+    Ok(())
 }
 
 // Adler-32: a checksum that many other programs can compute.
@@ -48,20 +50,18 @@ fn adler(bytes: &[u8]) -> u64 {
 }
 
 // A buffer after the call: all of it, or where that is long a checksum and its first bytes.
-pub fn show(buffer: &[u8]) {
+pub fn show(out: &mut impl Write, buffer: &[u8]) -> io::Result<()> {
     if buffer.len() == 0 {
-        say(b" -");
-        return;
+        return say(out, b" -");
     }
     if 64 < buffer.len() {
-        say(b" #");
-        put_hex(adler(buffer), 8);
-        say(b" ");
-        put_bytes(&buffer[0..16]);
-        return;
+        say(out, b" #")?;
+        put_hex(out, adler(buffer), 8)?;
+        say(out, b" ")?;
+        return put_bytes(out, &buffer[0..16]);
     }
-    say(b" ");
-    put_bytes(buffer);
+    say(out, b" ")?;
+    put_bytes(out, buffer)
 }
 
 fn number_of(v: Verdict) -> usize {
@@ -71,31 +71,36 @@ fn number_of(v: Verdict) -> usize {
     }
 }
 
-pub fn put_verdict(v: Verdict) {
-    put(b" ", number_of(v));
+pub fn put_verdict(out: &mut impl Write, v: Verdict) -> io::Result<()> {
+    put(out, b" ", number_of(v))
 }
 
-pub fn put_refusal(n: u8, left: usize) {
-    put(b" refused ", records::wide(n));
-    put(b", left ", left);
+pub fn put_refusal(out: &mut impl Write, n: u8, left: usize) -> io::Result<()> {
+    put(out, b" refused ", records::wide(n))?;
+    put(out, b", left ", left)
 }
 
-pub fn put_sides(before: &[u8], width: usize, height: usize) {
-    put(before, width);
-    put(b" x ", height);
+pub fn put_sides(
+    out: &mut impl Write,
+    before: &[u8],
+    width: usize,
+    height: usize,
+) -> io::Result<()> {
+    put(out, before, width)?;
+    put(out, b" x ", height)
 }
 
-pub fn put_shape(f: Format) {
-    put_sides(b" ", f.width, f.height);
+pub fn put_shape(out: &mut impl Write, f: Format) -> io::Result<()> {
+    put_sides(out, b" ", f.width, f.height)?;
     if f.tiled {
-        say(b", tiles");
+        say(out, b", tiles")?;
     } else {
-        say(b", strips");
+        say(out, b", strips")?;
     }
-    put_sides(b" ", f.block_width, f.block_height);
-    put(b", ", f.across);
-    put(b" across, ", f.segments);
-    put(b" segments, ", f.output);
-    put(b" bytes, ", head::channels_of(f.mono));
-    say(b" channels");
+    put_sides(out, b" ", f.block_width, f.block_height)?;
+    put(out, b", ", f.across)?;
+    put(out, b" across, ", f.segments)?;
+    put(out, b" segments, ", f.output)?;
+    put(out, b" bytes, ", head::channels_of(f.mono))?;
+    say(out, b" channels")
 }

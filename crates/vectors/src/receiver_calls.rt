@@ -4,6 +4,8 @@ use crate::line;
 use crate::line::{put, say};
 use crate::paths::append;
 use receiver::{Received, Receiver};
+use std::io;
+use std::io::Write;
 use trace::Next;
 
 // A block can have 65535 bytes, for which a file of records has no room: as many of these as it says come after a record's own.
@@ -26,62 +28,88 @@ fn state_of(numbers: &[u8]) -> Receiver {
     }
 }
 
-fn put_state(state: Receiver) {
+fn put_state(out: &mut impl Write, state: Receiver) -> io::Result<()> {
     if state.started {
-        put(b", started ", state.length);
+        put(out, b", started ", state.length)
     } else {
-        put(b", idle ", state.length);
+        put(out, b", idle ", state.length)
     }
 }
 
-fn put_received(received: Received) {
+fn put_received(out: &mut impl Write, received: Received) -> io::Result<()> {
     let answer = received.answer;
-    line::put_verdict(answer);
-    put_state(received.receiver);
+    line::put_verdict(out, answer)?;
+    put_state(out, received.receiver)
 }
 
-fn put_next(next: Next) {
+fn put_next(out: &mut impl Write, next: Next) -> io::Result<()> {
     match next {
-        Next::Over => say(b" over;"),
-        Next::Cut => say(b" cut;"),
-        Next::Foreign => say(b" foreign;"),
+        Next::Over => say(out, b" over;"),
+        Next::Cut => say(out, b" cut;"),
+        Next::Foreign => say(out, b" foreign;"),
         Next::Start(length) => {
-            put(b" start ", length);
-            say(b";");
+            put(out, b" start ", length)?;
+            say(out, b";")
         }
         Next::Block(number, size) => {
-            put(b" block ", number);
-            put(b" of ", size);
-            say(b";");
+            put(out, b" block ", number)?;
+            put(out, b" of ", size)?;
+            say(out, b";")
         }
     }
 }
 
-fn replay(trace: &[u8], file: &mut [u8], map: &mut [u8], state: Receiver) {
-    put_next(trace::first(trace));
-    put_received(receiver::replay(trace, file, map, state));
+fn replay(
+    out: &mut impl Write,
+    trace: &[u8],
+    file: &mut [u8],
+    map: &mut [u8],
+    state: Receiver,
+) -> io::Result<()> {
+    put_next(out, trace::first(trace))?;
+    put_received(out, receiver::replay(trace, file, map, state))
 }
 
 // The third number is the length of a start or the number of a block.
-fn receive(message: Message, numbers: &[u8], bytes: &[u8], file: &mut [u8], map: &mut [u8]) {
+fn receive(
+    out: &mut impl Write,
+    message: Message,
+    numbers: &[u8],
+    bytes: &[u8],
+    file: &mut [u8],
+    map: &mut [u8],
+) -> io::Result<()> {
     let state = state_of(numbers);
     let number = records::num(numbers, 16);
     match message {
-        Message::Start => put_received(receiver::start(file, map, state, number)),
-        Message::Block => put_received(receiver::block(file, map, state, number, bytes)),
-        Message::Trace => replay(bytes, file, map, state),
+        Message::Start => put_received(out, receiver::start(file, map, state, number)),
+        Message::Block => put_received(out, receiver::block(file, map, state, number, bytes)),
+        Message::Trace => replay(out, bytes, file, map, state),
     }
 }
 
-fn run_lent(message: Message, numbers: &[u8], bytes: &[u8], file: &mut [u8], map: &mut [u8]) {
-    receive(message, numbers, bytes, file, map);
-    line::put_checksum(b", file ", file);
-    say(b", map");
-    line::show(map);
+fn run_lent(
+    out: &mut impl Write,
+    message: Message,
+    numbers: &[u8],
+    bytes: &[u8],
+    file: &mut [u8],
+    map: &mut [u8],
+) -> io::Result<()> {
+    receive(out, message, numbers, bytes, file, map)?;
+    line::put_checksum(out, b", file ", file)?;
+    say(out, b", map")?;
+    line::show(out, map)
 }
 
 // The last two numbers are how many bytes come after those of the record, and how many the file buffer has. The map is the record's.
-pub fn run(message: Message, numbers: &[u8], bytes: &[u8], came: &[u8]) {
+pub fn run(
+    out: &mut impl Write,
+    message: Message,
+    numbers: &[u8],
+    bytes: &[u8],
+    came: &[u8],
+) -> io::Result<()> {
     let mut long = [TAIL; LONGEST];
     let mut file = [FILL; ROOM];
     let mut map = [FILL; ROOM];
@@ -90,10 +118,11 @@ pub fn run(message: Message, numbers: &[u8], bytes: &[u8], came: &[u8]) {
     let n = records::least(records::num(numbers, 32), ROOM);
     let m = append(came, &mut map, 0);
     run_lent(
+        out,
         message,
         numbers,
         &long[0..end],
         &mut file[0..n],
         &mut map[0..m],
-    );
+    )
 }

@@ -8,6 +8,8 @@ use checks::{Size, Told};
 use handle::{Handle, Inspected};
 use header::Limits;
 use picture::Format;
+use std::io;
+use std::io::Write;
 
 #[derive(Clone, Copy)]
 pub enum Strict {
@@ -39,78 +41,102 @@ fn lent_of(numbers: &[u8]) -> Lent {
     }
 }
 
-pub fn put_handle(h: Handle, left: usize) {
+pub fn put_handle(out: &mut impl Write, h: Handle, left: usize) -> io::Result<()> {
     let format = h.format;
-    line::put_shape(format);
-    put(b", entries ", format.entries);
-    put(b", page ", h.page);
-    put(b", scratch ", h.scratch);
-    put(b", work ", h.work);
-    put(b", left ", left);
-    say(b";");
+    line::put_shape(out, format)?;
+    put(out, b", entries ", format.entries)?;
+    put(out, b", page ", h.page)?;
+    put(out, b", scratch ", h.scratch)?;
+    put(out, b", work ", h.work)?;
+    put(out, b", left ", left)?;
+    say(out, b";")
 }
 
-fn put_told(told: Told) {
+fn put_told(out: &mut impl Write, told: Told) -> io::Result<()> {
     match told {
-        Told::Refused(n, left) => line::put_refusal(n, left),
-        Told::Passed(left) => put(b" decoded, left ", left),
+        Told::Refused(n, left) => line::put_refusal(out, n, left),
+        Told::Passed(left) => put(out, b" decoded, left ", left),
     }
 }
 
-fn put_size(size: Size) {
+fn put_size(out: &mut impl Write, size: Size) -> io::Result<()> {
     match size {
-        Size::Over => say(b" over"),
-        Size::Fits(n) => put(b" ", n),
+        Size::Over => say(out, b" over"),
+        Size::Fits(n) => put(out, b" ", n),
     }
 }
 
 pub fn decode(
+    out: &mut impl Write,
     file: &[u8],
     limits: Limits,
     handle: Handle,
     units: usize,
     output: &mut [u8],
     scratch: &mut [u8],
-) {
-    put_told(logluv_tiff::decode(file, limits, handle, units, output, scratch));
-    line::put_checksum(b", output ", output);
-    line::put_checksum(b", scratch ", scratch);
+) -> io::Result<()> {
+    put_told(
+        out,
+        logluv_tiff::decode(file, limits, handle, units, output, scratch),
+    )?;
+    line::put_checksum(out, b", output ", output)?;
+    line::put_checksum(out, b", scratch ", scratch)
 }
 
-fn run_decode(file: &[u8], limits: Limits, handle: Handle, lent: Lent) {
+fn run_decode(
+    out: &mut impl Write,
+    file: &[u8],
+    limits: Limits,
+    handle: Handle,
+    lent: Lent,
+) -> io::Result<()> {
     let mut output = [FILL; ROOM];
     let mut scratch = [FILL; ROOM];
     let n = records::least(lent.output, ROOM);
     let m = records::least(lent.scratch, ROOM);
     decode(
+        out,
         file,
         limits,
         handle,
         lent.units,
         &mut output[0..n],
         &mut scratch[0..m],
-    );
+    )
 }
 
 // Decode of a handle in which something may have been changed, of the file or of another one.
-fn run_changed(numbers: &[u8], asked: Ask, file: &[u8], other: &[u8], handle: Handle) {
+fn run_changed(
+    out: &mut impl Write,
+    numbers: &[u8],
+    asked: Ask,
+    file: &[u8],
+    other: &[u8],
+    handle: Handle,
+) -> io::Result<()> {
     let c = change_of(numbers);
     let lent = lent_of(numbers);
     let limits = change::in_limits(asked.limits, c);
     let changed = change::in_handle(handle, c);
     if other.len() == 0 {
-        run_decode(file, limits, changed, lent);
+        run_decode(out, file, limits, changed, lent)
     } else {
-        run_decode(other, limits, changed, lent);
+        run_decode(out, other, limits, changed, lent)
     }
 }
 
-fn run_reading(numbers: &[u8], asked: Ask, file: &[u8], other: &[u8]) {
+fn run_reading(
+    out: &mut impl Write,
+    numbers: &[u8],
+    asked: Ask,
+    file: &[u8],
+    other: &[u8],
+) -> io::Result<()> {
     match logluv_tiff::inspect(file, asked.page, asked.limits, asked.units) {
-        Inspected::Refused(n, left) => line::put_refusal(n, left),
+        Inspected::Refused(n, left) => line::put_refusal(out, n, left),
         Inspected::Picture(handle, left) => {
-            put_handle(handle, left);
-            run_changed(numbers, asked, file, other, handle);
+            put_handle(out, handle, left)?;
+            run_changed(out, numbers, asked, file, other, handle)
         }
     }
 }
@@ -138,14 +164,20 @@ fn no_handle() -> Handle {
     }
 }
 
-pub fn run(call: Strict, numbers: &[u8], file: &[u8], other: &[u8]) {
+pub fn run(
+    out: &mut impl Write,
+    call: Strict,
+    numbers: &[u8],
+    file: &[u8],
+    other: &[u8],
+) -> io::Result<()> {
     let asked = ask::ask_of(numbers);
     match call {
-        Strict::Reading => run_reading(numbers, asked, file, other),
-        Strict::Forged => run_changed(numbers, asked, file, other, no_handle()),
-        Strict::Bound => put_size(work_limit::logluv_inspection_work_limit(
-            asked.page,
-            asked.limits,
-        )),
+        Strict::Reading => run_reading(out, numbers, asked, file, other),
+        Strict::Forged => run_changed(out, numbers, asked, file, other, no_handle()),
+        Strict::Bound => put_size(
+            out,
+            work_limit::logluv_inspection_work_limit(asked.page, asked.limits),
+        ),
     }
 }
