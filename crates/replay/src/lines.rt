@@ -4,68 +4,70 @@ use crate::messages::{Progress, Stop};
 use crate::stream::End;
 use report::say;
 
-fn put_count(n: usize, meaning: &[u8]) {
-    say::column(n);
-    say::text(meaning);
+fn put_count(rt: &impl Print, n: usize, meaning: &[u8]) {
+    say::column(rt, n);
+    say::text(rt, meaning);
 }
 
-pub fn put_messages(progress: Progress) {
-    say::number(b"  messages  ", progress.messages);
-    say::number(b", of which ", progress.accepted);
-    say::text(b" were accepted\n");
-    put_count(progress.too_long, b"too long for the buffers (10)\n");
+pub fn put_messages(rt: &impl Print, progress: Progress) {
+    say::number(rt, b"  messages  ", progress.messages);
+    say::number(rt, b", of which ", progress.accepted);
+    say::text(rt, b" were accepted\n");
+    put_count(rt, progress.too_long, b"too long for the buffers (10)\n");
     put_count(
+        rt,
         progress.outside,
         b"outside the picture, or before any start (11)\n",
     );
-    put_count(progress.wrong_size, b"of a wrong size (12)\n");
+    put_count(rt, progress.wrong_size, b"of a wrong size (12)\n");
 }
 
-fn put_whole(bytes: usize) {
+fn put_whole(rt: &impl Print, bytes: usize) {
     if bytes == 0 {
-        say::text(b"has no bytes\n");
+        say::text(rt, b"has no bytes\n");
     } else {
-        say::text(b"ends after a whole message\n");
+        say::text(rt, b"ends after a whole message\n");
     }
 }
 
-fn put_cut(messages: usize) {
-    say::number(b"ends within message ", messages::more(messages));
-    say::text(b", which was not taken (1)\n");
+fn put_cut(rt: &impl Print, messages: usize) {
+    say::number(rt, b"ends within message ", messages::more(messages));
+    say::text(rt, b", which was not taken (1)\n");
 }
 
-fn put_foreign(bytes: usize, byte: u8) {
-    say::number(b"stopped after ", bytes);
+fn put_foreign(rt: &impl Print, bytes: usize, byte: u8) {
+    say::number(rt, b"stopped after ", bytes);
     say::number(
+        rt,
         b" bytes, as a message begins with 1 or 2 and not with ",
         records::wide(byte),
     );
-    say::text(b" (2)\n");
+    say::text(rt, b" (2)\n");
 }
 
-fn put_stop(stop: Stop, messages: usize, bytes: usize) {
+fn put_stop(rt: &impl Print, stop: Stop, messages: usize, bytes: usize) {
     match stop {
-        Stop::Over => put_whole(bytes),
-        Stop::Cut => put_cut(messages),
-        Stop::Foreign(byte) => put_foreign(bytes, byte),
+        Stop::Over => put_whole(rt, bytes),
+        Stop::Cut => put_cut(rt, messages),
+        Stop::Foreign(byte) => put_foreign(rt, bytes, byte),
     }
 }
 
 // How the trace ends after so many messages of so many bytes.
-pub fn put_end(end: End, messages: usize, bytes: usize) {
-    say::text(b"  trace     ");
+pub fn put_end(rt: &impl Print, end: End, messages: usize, bytes: usize) {
+    say::text(rt, b"  trace     ");
     match end {
-        End::At(stop) => put_stop(stop, messages, bytes),
-        End::Farther => say::text(b"goes on farther than its bytes can be counted\n"),
+        End::At(stop) => put_stop(rt, stop, messages, bytes),
+        End::Farther => say::text(rt, b"goes on farther than its bytes can be counted\n"),
     }
 }
 
-pub fn put_picture(bytes: usize, blocks: usize) {
-    say::number(b"  picture   ", bytes);
-    say::number(b" bytes in ", blocks);
-    say::text(b" blocks\n");
+pub fn put_picture(rt: &impl Print, bytes: usize, blocks: usize) {
+    say::number(rt, b"  picture   ", bytes);
+    say::number(rt, b" bytes in ", blocks);
+    say::text(rt, b" blocks\n");
 }
 
-pub fn put_no_picture() {
-    say::text(b"  picture   none, as no start was accepted\n");
+pub fn put_no_picture(rt: &impl Print) {
+    say::text(rt, b"  picture   none, as no start was accepted\n");
 }

@@ -76,6 +76,7 @@ fn counted(progress: Progress, received: Received) -> Progress
 }
 
 // Message after message, until no whole one is left.
+#[tactic(auto, using(crate::proofs::Taking::taking))]
 pub fn take(bytes: &[u8], file: &mut [u8], map: &mut [u8], progress: Progress) -> Taken
     ensures size_in_bounds { result.size ≤ length bytes.now }
     ensures replays { Replays bytes.now (lent progress.receiver file.old map.old) (ending_of result.stop)

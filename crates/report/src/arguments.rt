@@ -3,6 +3,8 @@ ghost use Rattle.io.specs.Counts.{IsPrefixLen};
 
 use crate::complain;
 use crate::load::Loaded;
+use std::env::FillError;
+use std::rt::Env;
 
 // What is to be written.
 #[derive(Clone, Copy)]
@@ -13,21 +15,44 @@ pub enum Kind {
     Unknown,
 }
 
+// How many arguments there are, the program's own name among them.
+pub fn count(rt: &impl Env) -> usize {
+    let mut n = 0;
+    for i in 0..usize::MAX {
+        if let Err(FillError::NotPresent) = rt.arg(i, &mut []) {
+            break;
+        }
+        n = i + 1;
+    }
+    n
+}
+
 // An argument at the start of the buffer. One that is not there is empty; one that is too long is complained of.
-pub fn argument(program: &[u8], i: usize, name: &mut [u8]) -> Loaded
+pub fn argument(
+    rt: &impl Env,
+    errors: &impl Print,
+    program: &[u8],
+    i: usize,
+    name: &mut [u8],
+) -> Loaded
     ensures { IsPrefixLen result.size name.new }
 {
-    let n = os::arg(i, name);
-    if os::errno() == libc::ENAMETOOLONG {
-        complain::long_name(program, i);
-        return Loaded {
-            good: false,
+    match rt.arg(i, name) {
+        Ok(n) => Loaded {
+            good: true,
             size: n,
-        };
-    }
-    Loaded {
-        good: true,
-        size: n,
+        },
+        Err(FillError::NotPresent) => Loaded {
+            good: true,
+            size: 0,
+        },
+        Err(FillError::TooLong) => {
+            complain::long_name(errors, program, i);
+            Loaded {
+                good: false,
+                size: 0,
+            }
+        }
     }
 }
 

@@ -1,11 +1,14 @@
 // What the programs share that show a picture to a person: names and files taken in, the picture read and reported on, and L
 // written as a file.
+#![tactic(auto)]
+
 ghost use Rattle.std.specs.Prelude.{◌≡◌, length};
 ghost use Rattle.report.specs.Pixels.{bytes_for};
 
 use arguments::Kind;
 use header::Limits;
 use patchy::{Reading, Sizes};
+use std::rt::Files;
 
 // The names that a program is given.
 pub mod arguments;
@@ -66,32 +69,34 @@ fn bytes_a_pixel(channels: usize) -> usize
 }
 
 // That nothing is written, where something was to be.
-pub fn put_unwritten(out: &[u8], kind: Kind) {
+pub fn put_unwritten(rt: &impl Print, out: &[u8], kind: Kind) {
     match kind {
         Kind::Nothing => {}
-        _ => lines::put_unwritten(out),
+        _ => lines::put_unwritten(rt, out),
     }
 }
 
 // The blocks, the refusal and the charge. There is nothing to write then.
-fn report_refusal(out: &[u8], kind: Kind, map: &[u8], number: u8, left: usize) {
-    lines::put_blocks(map);
-    refusal::put(number, limits());
-    lines::put_charge(left);
-    put_unwritten(out, kind);
+fn report_refusal(rt: &impl Print, out: &[u8], kind: Kind, map: &[u8], number: u8, left: usize) {
+    lines::put_blocks(rt, map);
+    refusal::put(rt, number, limits());
+    lines::put_charge(rt, left);
+    put_unwritten(rt, out, kind);
 }
 
 // The sizes, the blocks, the quality of each segment, what to mind there, and the charge.
-fn report_picture(map: &[u8], sizes: Sizes, quality: &[u8], left: usize) {
+fn report_picture(rt: &impl Print, map: &[u8], sizes: Sizes, quality: &[u8], left: usize) {
     let n = records::least(sizes.segments, quality.len());
-    lines::put_sizes(sizes);
-    lines::put_blocks(map);
-    lines::put_quality(&quality[0..n]);
-    lines::put_caution(sizes);
-    lines::put_charge(left);
+    lines::put_sizes(rt, sizes);
+    lines::put_blocks(rt, map);
+    lines::put_quality(rt, &quality[0..n]);
+    lines::put_caution(rt, sizes);
+    lines::put_charge(rt, left);
 }
 
 fn write_picture(
+    rt: &(impl Print + Files),
+    errors: &impl Print,
     program: &[u8],
     out: &[u8],
     kind: Kind,
@@ -101,14 +106,22 @@ fn write_picture(
     scratch: &mut [u8],
 ) {
     match kind {
-        Kind::Pgm => pgm_file::write(program, out, picture, sizes, scratch),
-        Kind::Png => png_file::write(program, out, quality, sizes, picture, scratch),
+        Kind::Pgm => pgm_file::write(rt, errors, program, out, picture, sizes, scratch),
+        Kind::Png => png_file::write(rt, errors, program, out, quality, sizes, picture, scratch),
         _ => {}
     }
 }
 
 // Reads the picture, reports what came of it, and writes it where that is asked for.
-pub fn show(program: &[u8], out: &[u8], kind: Kind, file: &[u8], map: &[u8]) {
+pub fn show(
+    rt: &(impl Print + Files),
+    errors: &impl Print,
+    program: &[u8],
+    out: &[u8],
+    kind: Kind,
+    file: &[u8],
+    map: &[u8],
+) {
     let mut output = new_room();
     let mut scratch = new_room();
     let mut quality = io::large_buffer();
@@ -122,10 +135,12 @@ pub fn show(program: &[u8], out: &[u8], kind: Kind, file: &[u8], map: &[u8]) {
         &mut scratch,
         &mut quality,
     ) {
-        Reading::Refused(number, left) => report_refusal(out, kind, map, number, left),
+        Reading::Refused(number, left) => report_refusal(rt, out, kind, map, number, left),
         Reading::Picture(sizes, left) => {
-            report_picture(map, sizes, &quality, left);
+            report_picture(rt, map, sizes, &quality, left);
             write_picture(
+                rt,
+                errors,
                 program,
                 out,
                 kind,

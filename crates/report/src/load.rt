@@ -1,7 +1,13 @@
 // A file's bytes, read into a lent buffer piece by piece until the file ends.
+ghost use Rattle.std.specs.Prelude.{◌≡◌, ◌↔◌, IfOk, IsOk, IsUtf8};
 ghost use Rattle.io.specs.Counts.{IsPrefixLen};
+ghost use Rattle.std.specs.Io.{ReadsAtMost};
 
 use crate::complain;
+use std::fs::File;
+use std::io;
+use std::io::Read;
+use std::rt::Files;
 
 // Whether nothing failed, and how many bytes came.
 #[derive(Clone, Copy)]
@@ -10,55 +16,71 @@ pub struct Loaded {
     pub size: usize,
 }
 
-fn read_piece(fd: i32, part: &mut [u8]) -> Loaded
-    ensures { IsPrefixLen result.size part.new }
+// The name of a file as the library takes it, which is as text.
+pub fn path_of(name: &[u8]) -> io::Result<&str>
+    ensures same { IfOk result (λ path. path.now ≡ name.now) }
+    ensures text { IsOk result ↔ IsUtf8 name.now }
 {
-    let got = libc::read(fd, part);
-    let size = io::count(got, part);
-    Loaded {
-        good: 0 <= got,
-        size: size,
+    match str::from_utf8(name) {
+        Ok(path) => Ok(path),
+        Err(_) => Err(io::Error::from(io::ErrorKind::InvalidFilename)),
     }
 }
 
-// Until the file ends, the buffer is full or a read fails.
-pub fn read_pieces(fd: i32, buffer: &mut [u8]) -> Loaded
-    ensures { IsPrefixLen result.size buffer.new }
+pub fn open<R: Files>(rt: &R, name: &[u8]) -> io::Result<R::File> {
+    File::open(rt, path_of(name)?)
+}
+
+fn read_piece(file: &mut impl Read, part: &mut [u8]) -> io::Result<usize>
+    ensures { ReadsAtMost result part.new }
+{
+    file.read(part)
+}
+
+// Until the file ends, the buffer is full or a read fails, and then what came before it is in the buffer.
+pub fn read_pieces(file: &mut impl Read, buffer: &mut [u8]) -> io::Result<usize>
+    ensures { ReadsAtMost result buffer.new }
 {
     let mut n: usize = 0;
     while n < buffer.len() {
-        let piece = read_piece(fd, &mut buffer[n..]);
-        let more = piece.size;
+        let more = read_piece(file, &mut buffer[n..])?;
         if more == 0 {
-            return Loaded {
-                good: piece.good,
-                size: n,
-            };
+            return Ok(n);
         }
         n += more;
     }
-    Loaded {
-        good: true,
-        size: n,
-    }
+    Ok(n)
+}
+
+fn read_file(rt: &impl Files, name: &[u8], buffer: &mut [u8]) -> io::Result<usize>
+    ensures { ReadsAtMost result buffer.new }
+{
+    let mut file = open(rt, name)?;
+    read_pieces(&mut file, buffer)
 }
 
 // The bytes of the file, at the start of the buffer. A file that cannot be read is complained of.
-pub fn load(program: &[u8], complaint: &[u8], name: &[u8], buffer: &mut [u8]) -> Loaded
+pub fn load(
+    rt: &impl Files,
+    errors: &impl Print,
+    program: &[u8],
+    complaint: &[u8],
+    name: &[u8],
+    buffer: &mut [u8],
+) -> Loaded
     ensures { IsPrefixLen result.size buffer.new }
 {
-    let fd = os::open_read(name);
-    if fd < 0 {
-        complain::failed(program, complaint, name);
-        return Loaded {
-            good: false,
-            size: 0,
-        };
+    match read_file(rt, name, buffer) {
+        Ok(n) => Loaded {
+            good: true,
+            size: n,
+        },
+        Err(error) => {
+            complain::failed(errors, program, complaint, name, &error);
+            Loaded {
+                good: false,
+                size: 0,
+            }
+        }
     }
-    let loaded = read_pieces(fd, buffer);
-    if !loaded.good {
-        complain::failed(program, complaint, name);
-    }
-    libc::close(fd);
-    loaded
 }

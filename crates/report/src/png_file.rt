@@ -5,8 +5,10 @@ ghost use Rattle.report.specs.PngFile.{png_file_of};
 
 use crate::{bytes_a_pixel, complain, save};
 use patchy::Sizes;
+use std::rt::Files;
 
 // The file's bytes in the place of the picture, and how many there are. Scratch has the pixels' colours then.
+#[tactic(auto, using(crate::proofs::ColourFile::colour_file))]
 fn put_file(
     size: usize,
     quality: &[u8],
@@ -36,6 +38,8 @@ fn put_file(
 
 // Makes the file in the place of the picture, and writes it.
 pub fn write(
+    rt: &(impl Print + Files),
+    errors: &impl Print,
     program: &[u8],
     name: &[u8],
     quality: &[u8],
@@ -54,8 +58,8 @@ pub fn write(
         scratch,
     );
     if n == 0 {
-        complain::no_room(program, name, b"PNG");
+        complain::no_room(errors, program, name, b"PNG");
         return;
     }
-    save::save(program, name, b": PNG, ", sizes, &picture[..n]);
+    save::save(rt, errors, program, name, b": PNG, ", sizes, &picture[..n]);
 }

@@ -1,38 +1,38 @@
 // Text and numbers to standard output.
-use libc::STDOUT_FILENO;
 
-pub fn text(words: &[u8]) {
-    io::write_all(STDOUT_FILENO, words);
+// What standard output does not take is lost.
+pub fn text(rt: &impl Print, words: &[u8]) {
+    let _ = rt.write_all(words);
 }
 
-pub fn line(words: &[u8]) {
-    text(words);
-    text(b"\n");
+pub fn line(rt: &impl Print, words: &[u8]) {
+    text(rt, words);
+    text(rt, b"\n");
 }
 
 // A number after a text.
-pub fn number(before: &[u8], n: usize) {
-    text(before);
-    io::print_decimal(STDOUT_FILENO, n as u64);
+pub fn number(rt: &impl Print, before: &[u8], n: usize) {
+    text(rt, before);
+    let _ = rt.print(n);
 }
 
 // The checksum of a file's bytes.
-pub fn sum(file: &[u8]) {
-    io::print_hex(STDOUT_FILENO, records::crc::crc32(file) as u64, 8);
+pub fn sum(rt: &impl Print, file: &[u8]) {
+    let _ = print!(rt; "{:08x}", records::crc::crc32(file));
 }
 
 // A number of up to five digits in the place of a label.
-pub fn column(n: usize) {
+pub fn column(rt: &impl Print, n: usize) {
     if n < 10 {
-        number(b"        ", n);
+        number(rt, b"        ", n);
     } else if n < 100 {
-        number(b"       ", n);
+        number(rt, b"       ", n);
     } else if n < 1000 {
-        number(b"      ", n);
+        number(rt, b"      ", n);
     } else if n < 10000 {
-        number(b"     ", n);
+        number(rt, b"     ", n);
     } else {
-        number(b"    ", n);
+        number(rt, b"    ", n);
     }
-    text(b"   ");
+    text(rt, b"   ");
 }
