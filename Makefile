@@ -34,7 +34,7 @@ help:
 	@echo 'What a command needs is named where it is missing; with INSTALL=1 behind it, it is installed (on Debian, as root).'
 
 strips:
-	rt check strips
+	@tools/program strips
 
 # Block 44 of 85 is lost, which has bytes of strip 31 alone.
 demo: strips
@@ -48,7 +48,7 @@ strips-test: strips
 	tests/strips.sh
 
 replay:
-	rt check replay
+	@tools/program replay
 
 # In a folder of its own, so that the names are those of the expected report.
 demo-trace: replay
