@@ -1,4 +1,5 @@
-// What is written of a reading: its answer, the quality of each strip, and checksums of the picture's parts.
+// What is written of a reading: its answer, the quality of each strip, and checksums of the picture's parts. The error of a write goes
+// up to main, which ends with it; what came before it is written.
 use patchy::{Reading, Sizes};
 use std::io;
 use std::io::Write;

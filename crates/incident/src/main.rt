@@ -43,7 +43,7 @@ fn new_picture() -> [u8; PICTURE]
     [0; PICTURE]
 }
 
-// Reads until the buffer is full or the input ends; how many bytes there are.
+// Reads until the buffer is full or the input ends; how many bytes there are. After an error the buffer may have some of them.
 fn read_full(input: &mut impl Read, buffer: &mut [u8]) -> io::Result<usize>
     ensures { IfOk result (λ n. n ≤ length buffer.new) }
 {

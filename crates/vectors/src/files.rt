@@ -19,7 +19,7 @@ pub enum Content {
     Picture(usize),
 }
 
-// Reads until the buffer is full or the input ends; how many bytes there are.
+// Reads until the buffer is full or the input ends; how many bytes there are. After an error the buffer may have some of them.
 fn read_full(input: &mut impl Read, buffer: &mut [u8]) -> io::Result<usize>
     ensures { IfOk result (λ n. n ≤ length buffer.new) }
 {

@@ -1,4 +1,5 @@
-// What is written of numbers, checksums and answers that several groups have.
+// What is written of numbers, checksums and answers that several groups have. The error of a write goes up to main, which ends with it;
+// what came before it is written.
 use checks::Verdict;
 use picture::Format;
 use std::io;

@@ -7,7 +7,7 @@ use front_calls::Front;
 use leaf_calls::Leaf;
 use receiver_calls::Message;
 use std::io;
-use std::io::{BufWriter, Write};
+use std::io::Write;
 use std::rt::Files;
 use strict_calls::Strict;
 use walk::Kind;
@@ -241,12 +241,11 @@ fn run_pictures(rt: &impl Files, out: &mut impl Write) -> io::Result<()> {
 }
 
 fn main(rt: HostRuntime) -> io::Result<()> {
-    let mut out = BufWriter::new(rt.alloc(), io::writer(&rt))?;
+    let mut out = io::writer(&rt);
     run_leaf(&rt, &mut out)?;
     run_front(&rt, &mut out)?;
     run_strict(&rt, &mut out)?;
     run_patchy(&rt, &mut out)?;
     run_receiver(&rt, &mut out)?;
-    run_pictures(&rt, &mut out)?;
-    out.flush()
+    run_pictures(&rt, &mut out)
 }
