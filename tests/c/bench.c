@@ -365,12 +365,11 @@ static double speed(const struct content *content, enum way way)
     return (double)pixel_bytes(&content->shape) / 1e3 / content->median[way];
 }
 
-/* On x86-64 the kit's archive is linked, elsewhere what tools/archive makes of the same bitcode. */
+/* On x86-64 the archive that is delivered is linked, elsewhere the one that tools/archive has rt build for this processor. */
 #ifdef __x86_64__
 static const char origin[] = "target/staticlib/libchelmesut.a, as rt builds it";
 #else
-static const char origin[] = "the bitcode of which rt builds the archive for x86-64, compiled for this machine by the same "
-                             "clang (tools/archive)";
+static const char origin[] = "the archive that rt builds for this processor (tools/archive)";
 #endif
 
 static void print_head(const char *machine, const char *kit, size_t repetitions)
