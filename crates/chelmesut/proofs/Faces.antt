@@ -78,7 +78,8 @@ module _ (file : List ℕ) (page : ℕ) (l : Limits) (words : List ℕ) (units :
   abbrev Done : ℕ → ℕ → List ℕ → List ℕ → Type 0
   Done = Decode file page l words units output scratch
 
-  as_told : (t : Told) → t ≡ told₀ → (n left : ℕ) → n ≡ told_number t → left ≡ told_left t → (x y : List ℕ) → x ≡ shown t h₀ → y ≡ cleared t h₀ → Done n left x y
+  as_told : (t : Told) → t ≡ told₀ → (n left : ℕ) → n ≡ told_number t → left ≡ told_left t
+      → (x y : List ℕ) → x ≡ shown t h₀ → y ≡ cleared t h₀ → Done n left x y
   as_told t e n left en el x y ex ey = record {
     number_is = en ∙ ap told_number e;
     left_is = el ∙ ap told_left e;

@@ -56,7 +56,8 @@ pub few_segments : (v : Seen) (b : Bool) (entries : ℕ) (slots : List ℕ) (l :
 unfolding format_with shape_of
 few_segments v b entries slots l p = by (absent (entry_in slots tile_offsets)) refl
   where
-    by : (t : Bool) → absent (entry_in slots tile_offsets) ≡ t → (format_with b entries slots (shape_of (numbers_of v b slots) (not t))).segments ≤ l.max_segments
+    by : (t : Bool) → absent (entry_in slots tile_offsets) ≡ t
+        → (format_with b entries slots (shape_of (numbers_of v b slots) (not t))).segments ≤ l.max_segments
     by true e = (p.strips (eqb-true (entry_in slots tile_offsets) 0 e)).blocks.segments_allowed
     by false e = (p.tiles (eqb-false (entry_in slots tile_offsets) 0 e)).blocks.segments_allowed
 

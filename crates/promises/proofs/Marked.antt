@@ -24,7 +24,7 @@ use Rattle.native_fp.specs.NativeFp.{summed, gathered}
 use Rattle.promises.specs.Marked.{Case, cases}
 
 pub marked : map (λ (c : Case). c.gives) cases ≡ map (λ (c : Case). c.says) cases
-unfolding cases arrived came_in four inside two whole format_with in_field place_of size_of word_at picture_of place_checks stored stored_checks shown quality_is
-    rows_of byte_segment byte_local defaults slot_number head_in shape_of span joined per_row back verdict len_of payload_of room_of packet_checks piece
-    expand range_checks uv pixel pixel_at row_pixels pixels number_from digits word value sample row64 samples summed_row gathered_row summed gathered
+unfolding cases arrived came_in four inside two whole format_with in_field place_of size_of word_at picture_of place_checks stored stored_checks shown
+    quality_is rows_of byte_segment byte_local defaults slot_number head_in shape_of span joined per_row back verdict len_of payload_of room_of packet_checks
+    piece expand range_checks uv pixel pixel_at row_pixels pixels number_from digits word value sample row64 samples summed_row gathered_row summed gathered
 marked = refl

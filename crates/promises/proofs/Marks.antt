@@ -41,11 +41,13 @@ module _ (v : Seen) (f : Format) (ok : Valid f) (old : List ℕ) (x y b : ℕ) (
   pixel_over : get_or (overlay (picture_of f (shows_of v f)) old) place 0
       ≡ get_or (shows_of v f segment) (local_of (bytes_of f.mono) f.block_width f.block_height x y b) 0
   pixel_over =
-      overlay_new _ _ place (rw (picture_length f (shows_of v f)) (pixel_in f x y b column byte ok row)) ∙ pixel_at_lem f x y b column byte ok row (shows_of v f)
+      overlay_new _ _ place (rw (picture_length f (shows_of v f)) (pixel_in f x y b column byte ok row))
+      ∙ pixel_at_lem f x y b column byte ok row (shows_of v f)
 
   good_over : Good v f segment → get_or (overlay (picture_of f (shows_of v f)) old) place 0 ≡ get_or (pixel_seen v f x y) b 0
   good_over good =
-      pixel_over ∙ rw (good_shown v f segment good) (sym (pixel_at_lem f x y b column byte ok row (shown v f))) ∙ pixel_of_good v f ok x y b column row byte good
+      pixel_over ∙ rw (good_shown v f segment good) (sym (pixel_at_lem f x y b column byte ok row (shown v f)))
+      ∙ pixel_of_good v f ok x y b column row byte good
 
   blank_over : (Good v f segment → ⊥) → get_or (overlay (picture_of f (shows_of v f)) old) place 0 ≡ 0
   blank_over bad = pixel_over ∙ rw (other_blank v f segment bad)

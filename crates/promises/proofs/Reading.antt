@@ -25,7 +25,8 @@ module _ (v : Seen) (page : ℕ) (l : Limits) (output scratch : ℕ) where
   read_fine : Holds (both_checks v page l output scratch)
       ↔ (PictureFine v page l × (((handle_of v page).format.output ≤ output) × ((handle_of v page).scratch ≤ scratch)))
   unfolding both_checks
-  read_fine = both (inspect_checks v page l) (show_checks (handle_of v page) output scratch) (picture_fine v page l) (show_fine (handle_of v page) output scratch)
+  read_fine = both (inspect_checks v page l) (show_checks (handle_of v page) output scratch)
+      (picture_fine v page l) (show_fine (handle_of v page) output scratch)
 
   read_cost : cost (both_checks v page l output scratch) ≡ inspection_charge v page + (handle_of v page).work
   unfolding cost both_checks

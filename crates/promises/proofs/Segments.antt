@@ -120,7 +120,8 @@ module _ (number : ℕ) (unusual : Unusual number) where
         let always = never_there number unusual v all_came in
         never_both number (there v (offset_place v f k) (offset_size v f))
         (there v (count_place v f k) (count_size v f) ++ there v (offset_of v f k) (count_of v f k)) (always (offset_place v f k) (offset_size v f))
-        (never_both number (there v (count_place v f k) (count_size v f)) (there v (offset_of v f k) (count_of v f k)) (always (count_place v f k) (count_size v f))
+        (never_both number (there v (count_place v f k) (count_size v f)) (there v (offset_of v f k) (count_of v f k))
+        (always (count_place v f k) (count_size v f))
         (always (offset_of v f k) (count_of v f k)))
 
     never_stored : (k : ℕ) → Never number (stored_checks v f k)

@@ -293,7 +293,8 @@ module _ (size file map : ℕ) (fit : Suffice size file map) where
           let after = (received_all messages s).file in
           let room : length bytes ≤ length (drop (block_start b) after) =
           simp length-drop (omega (arith, bytes_in s d b bytes w, d.file_long, (during_all messages quiet s d).file_long)) in
-          let long : length (take (length bytes) (drop (block_start b) after)) ≡ length bytes = length-take-le (length bytes) (drop (block_start b) after) room in
+          let long : length (take (length bytes) (drop (block_start b) after)) ≡ length bytes =
+          length-take-le (length bytes) (drop (block_start b) after) room in
           ext_get_or 0 _ bytes long
           (λ j h. get_or-take (length bytes) (drop (block_start b) after) j 0 (rw long at h) ∙ get_or-drop (block_start b) after j 0
           ∙ last_byte none j (rw long at h))

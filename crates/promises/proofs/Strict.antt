@@ -108,7 +108,8 @@ module _ (v : Seen) (page : ℕ) (l : Limits) where
     inspection_refused e = Iff.trans (told_refused e, λ q. rw q) (refused (inspect_checks v page l) u e w)
 
   -- so it answers exactly if the picture is fine and the units cover the charge
-  pub inspection_answers : (u : ℕ) → ((h : Handle) × (w : ℕ) × (inspected_of v page l u ≡ Picture h w)) ↔ (PictureFine v page l × (inspection_charge v page ≤ u))
+  pub inspection_answers : (u : ℕ) → ((h : Handle) × (w : ℕ) × (inspected_of v page l u ≡ Picture h w))
+      ↔ (PictureFine v page l × (inspection_charge v page ≤ u))
   inspection_answers u = (
     λ (h, w, e). let i = (inspection_exact u w h).0 e in (i.fine, i.covered),
     λ p. (

@@ -75,10 +75,10 @@ module _ (head : Head) where
 computed : (head : Head) → Computed head
 unfolding segments_checks joined overlay per_row span run verdict arrived block_came came_in four inside two whole byte_local byte_segment rows_of begins
     header_checks order_checks count_checks directory_checks entry_of fresh index_in slots_in tags_fine defaults known page_at walk_checks has_values in_field
-    numeric place_of size_of word_at expand len_of packet_checks payload_of piece room_of pixel pixel_at pixels row_pixels uv picture_of area_checks place_checks
-    plan_checks carries each_is format_with numbers_of profile_checks scalar_checks scalar_fine scalars shape_of slot_number has_head head_in step2 step3 step4 step5 step6
-    step7 step8 sample_checks front_checks each_segment fees_of segment_checks shown stored stored_checks quality_is inspect_checks both_checks buffer_checks
-    charges_of patchy_checks least_file
+    numeric place_of size_of word_at expand len_of packet_checks payload_of piece room_of pixel pixel_at pixels row_pixels uv picture_of area_checks
+    place_checks plan_checks carries each_is format_with numbers_of profile_checks scalar_checks scalar_fine scalars shape_of slot_number has_head
+    head_in step2 step3 step4 step5 step6 step7 step8 sample_checks front_checks each_segment fees_of segment_checks shown stored
+    stored_checks quality_is inspect_checks both_checks buffer_checks charges_of patchy_checks least_file
 computed false = record {
   format_whole = refl;
   format_mapped = refl;

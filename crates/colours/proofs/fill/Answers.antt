@@ -17,7 +17,8 @@ bounds-out-p c = search colouring
 
 pub loop-p-preserved : goal.loop-p-preserved
 loop-p-preserved c =
-    let known = colour_known c.args.size c.args.picture.now c.args.quality.now c.args.width c.args.block_width c.args.block_height c.loop-p.p c.segment_of-k.ensures c.code_at.ensures c.light_at.ensures c.tone_of.ensures c.colour_of.ensures in
+    let known = colour_known c.args.size c.args.picture.now c.args.quality.now c.args.width c.args.block_width c.args.block_height
+    c.loop-p.p c.segment_of-k.ensures c.code_at.ensures c.light_at.ensures c.tone_of.ensures c.colour_of.ensures in
     search (known, fills, rules)
 
 pub returns : goal.returns
