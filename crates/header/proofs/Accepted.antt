@@ -2,27 +2,16 @@
 use Prim.Native.Nat.{ℕ}
 use mathlib.Core.Path.{◌≡◌, refl}
 use mathlib.Core.Logic.{◌↔◌, ◌⊎◌, inl, inr}
-use mathlib.Core.List.{List, [], ◌∷◌}
+use mathlib.Core.List.{[], ◌∷◌}
 use mathlib.Core.Bool.{Bool, true, false, ◌&&◌, ◌||◌}
 use lib.Dec.{eqb}
 use borrow.Author.Tests.{eqb-true, eq-eqb}
-use Rattle.checks.specs.Numbers.{verdict_number}
-use Rattle.checks.specs.Checks.{Check, verdict, Holds}
-use Rattle.checks.specs.declared.Verdict.{Verdict}
-use Rattle.checks.specs.declared.Verdict.TheVariants as VerdictIs
+use Rattle.checks.specs.Checks.{Holds}
 use Rattle.checks.proofs.Exact.{holds_then, holds_both}
 use Rattle.seen.specs.Seen.{Seen, there}
 use Rattle.seen.proofs.Blocks.{true_false}
 use Rattle.seen.proofs.Words.{there_holds, holds_there}
-use Rattle.header.specs.Header.{begins, little_endian, big_endian, order_checks, header_checks, first_of, start, start_of, start_number, Opens, HeaderFine}
-
--- the number of an answer
-pub start_number_lem : (v : Seen) (cs : List Check) → start_number (start_of v cs) ≡ verdict_number (verdict cs)
-start_number_lem v cs = by (verdict cs)
-  where
-    by : (r : Verdict) → start_number (start r (big_endian v) (first_of v)) ≡ verdict_number r
-    by VerdictIs.Fine = refl
-    by (VerdictIs.Refused e) = refl
+use Rattle.header.specs.Header.{begins, little_endian, big_endian, order_checks, header_checks, Opens, HeaderFine}
 
 -- four bytes
 bytes_open : (v : Seen) (a b c d : ℕ) → begins v 0 (a ∷ b ∷ c ∷ d ∷ []) ≡ true → Opens v a b c d

@@ -1,13 +1,11 @@
 -- The limits on the whole file, then its first eight bytes: byte order and first directory (rules 2.2 to 2.5).
-use Rattle.std.specs.Prelude.{ℕ, suc, ◌≡◌, ◌⊎◌, List, [], ◌∷◌, ◌++◌, Bool, true, not, ◌&&◌, ◌||◌, ltb, leb, eqb}
+use Rattle.std.specs.Prelude.{ℕ, suc, ◌≡◌, ◌⊎◌, List, [], ◌∷◌, ◌++◌, Bool, true, not, ◌&&◌, ◌||◌, ltb, leb, eqb, Result}
 use Rattle.checks.specs.Numbers.{invalid, unsupported, limit}
-use Rattle.checks.specs.Checks.{Check, must, verdict}
-use Rattle.checks.specs.declared.Verdict.{Verdict}
-use Rattle.checks.specs.declared.Verdict.TheVariants as VerdictIs
+use Rattle.checks.specs.Checks.{Check, must, verdict, giving}
 use Rattle.seen.specs.Seen.{Seen, there, There, four}
 use Rattle.header.specs.declared.Limits.{Limits}
 use Rattle.header.specs.declared.Start.{Start}
-use Rattle.header.specs.declared.Start.TheVariants.{Refused, At}
+use Rattle.checks.specs.declared.Refusal.{Refusal}
 
 -- the file's length and the page (rule 2.2)
 abbrev pub limit_checks : ℕ → ℕ → Limits → List Check
@@ -43,17 +41,8 @@ abbrev pub first_of : Seen → ℕ
 first_of v = four (big_endian v) v 4
 
 -- the answer to a list of checks on the header
-abbrev pub start : Verdict → Bool → ℕ → Start
-start VerdictIs.Fine b n = At b n
-start (VerdictIs.Refused e) b n = Refused e
-
-abbrev pub start_of : Seen → List Check → Start
-start_of v cs = start (verdict cs) (big_endian v) (first_of v)
-
--- 0 where nothing is refused
-abbrev pub start_number : Start → ℕ
-start_number (At b n) = 0
-start_number (Refused e) = e
+abbrev pub start_of : Seen → List Check → Result Start Refusal
+start_of v cs = giving (verdict cs) (record { big = big_endian v; first = first_of v })
 
 -- without order: a file begins with these four bytes
 pub record Opens (v : Seen) (a b c d : ℕ) : Type 0 where

@@ -6,10 +6,10 @@ ghost use Rattle.checks.specs.Checks.{verdict};
 ghost use Rattle.seen.specs.Seen.{seen, There};
 ghost use Rattle.header.specs.Header.{limit_checks, begins, order_checks, header_checks, start_of};
 
-use checks::{INVALID, LIMIT, UNSUPPORTED, Verdict};
+use checks::Refusal;
 
 // What a caller allows.
-#[derive(Clone, Copy)]
+#[derive(Clone, Copy, Debug, PartialEq, Eq)]
 pub struct Limits {
     pub max_input: usize,
     pub max_output: usize,
@@ -20,68 +20,52 @@ pub struct Limits {
 }
 
 // The byte order (whether the high byte comes first) and the place of the first directory.
-#[derive(Clone, Copy)]
-pub enum Start {
-    Refused(u8),
-    At(bool, usize),
+#[derive(Clone, Copy, Debug, PartialEq, Eq)]
+pub struct Start {
+    pub big: bool,
+    pub first: usize,
 }
 
 // The two limits that are known before any byte is read.
-pub fn check_limits(size: usize, page: usize, limits: Limits) -> Verdict
+#[tactic(auto, using(checks::proofs::Rules::verdicts))]
+pub fn check_limits(size: usize, page: usize, limits: Limits) -> Result<(), Refusal>
     ensures { result ≡ verdict (limit_checks size page limits) }
 {
-    let max_input = limits.max_input;
-    let max_directories = limits.max_directories;
-    if max_input < size {
-        return Verdict::Refused(LIMIT);
+    if limits.max_input < size || limits.max_directories <= page {
+        return Err(Refusal::Limit);
     }
-    if max_directories <= page {
-        return Verdict::Refused(LIMIT);
-    }
-    Verdict::Fine
+    Ok(())
 }
 
 // Whether the first four bytes are these.
-fn begins_with(file: &[u8], map: &[u8], mark: &[u8]) -> bool
-    requires { There (seen file.now map.now) 0 8 × (length mark.now ≡ 4) }
+fn begins_with(file: &[u8], map: &[u8], mark: &[u8; 4]) -> bool
+    requires { There (seen file.now map.now) 0 8 }
     ensures { result ≡ begins (seen file.now map.now) 0 mark.now }
 {
-    let mut i: usize = 0;
-    while i < 4 {
-        if file[i] != mark[i] {
-            return false;
-        }
-        i += 1;
-    }
-    true
+    file.starts_with(mark)
 }
 
 // The first four bytes: those of the 64-bit format 3, others than the two orders 2.
-fn read_order(file: &[u8], map: &[u8]) -> Start
+#[tactic(auto, using(crate::proofs::Orders::orders))]
+fn read_order(file: &[u8], map: &[u8]) -> Result<Start, Refusal>
     requires { There (seen file.now map.now) 0 8 }
     ensures { result ≡ start_of (seen file.now map.now) (order_checks (seen file.now map.now)) }
 {
-    if begins_with(file, map, b"II+\0") {
-        return Start::Refused(UNSUPPORTED);
+    if begins_with(file, map, b"II+\0") || begins_with(file, map, b"MM\0+") {
+        return Err(Refusal::Unsupported);
     }
-    if begins_with(file, map, b"MM\0+") {
-        return Start::Refused(UNSUPPORTED);
+    let big = begins_with(file, map, b"MM\0*");
+    if big || begins_with(file, map, b"II*\0") {
+        let first = words::word4(file, map, big, 4);
+        return Ok(Start { big, first });
     }
-    if begins_with(file, map, b"MM\0*") {
-        return Start::At(true, words::word4(file, map, true, 4));
-    }
-    if begins_with(file, map, b"II*\0") {
-        return Start::At(false, words::word4(file, map, false, 4));
-    }
-    Start::Refused(INVALID)
+    Err(Refusal::Invalid)
 }
 
 // The first eight bytes.
-pub fn read_header(file: &[u8], map: &[u8]) -> Start
+pub fn read_header(file: &[u8], map: &[u8]) -> Result<Start, Refusal>
     ensures { result ≡ start_of (seen file.now map.now) (header_checks (seen file.now map.now)) }
 {
-    match seen::need(file, map, 0, 8) {
-        Verdict::Refused(e) => Start::Refused(e),
-        Verdict::Fine => read_order(file, map),
-    }
+    seen::need(file, map, 0, 8)?;
+    read_order(file, map)
 }

@@ -11,16 +11,15 @@ use lib.Dec.{leb, eqb}
 use borrow.Author.Rules.{rules}
 use borrow.Author.Tests.{lt-ltb, le-leb, lt-leb, eq-eqb, ne_eqb, eqb-true, eqb-false, leb-true, leb-false, not-true, not-false}
 use Rattle.lists.specs.Lists.{pick}
-use Rattle.checks.specs.Numbers.{truncated, not_arrived, verdict_number}
+use Rattle.checks.specs.Numbers.{truncated, not_arrived, verdict_number, Verdict, no_refusal}
 use Rattle.checks.specs.Checks.{verdict}
-use Rattle.checks.specs.declared.Verdict.{Verdict}
-use Rattle.checks.specs.declared.Verdict.TheVariants as VerdictIs
 use Rattle.seen.specs.Seen.{Seen, seen, block_came, arrived, came_in, whole, inside, reach_of, reach_number, there}
 use Rattle.seen.specs.declared.Reach.{Reach}
 use Rattle.seen.specs.declared.Reach.TheVariants.{Inside, Outside, Missing}
+use Rattle.std.specs.Prelude.{Err}
 
 pub true_false : {b : Bool} → b ≡ true → b ≡ false → ⊥
-true_false e q = let z : ◌≡◌ {A = ℕ} 0 1 = cc in omega arith
+true_false e q = cc
 
 -- ranges that came whole
 module _ (came : ℕ → Bool) where
@@ -80,8 +79,8 @@ next_block map start b s q t = record { from_start = omega arith; all = λ j x y
     by {j} true e x y = rw (eqb-true j b e) (sym q ∙ t)
     by {j} false e x y = s.all j x (omega (arith, eqb-false j b e))
 
-module _ (map : List ℕ) (start end last b : ℕ) (s : Blocks map start b) (some : 0 < length map) (lt : start < end) (el : last ≡ (end - 1) / 512) where
-  pub block_lost : {r : Bool} → b ≤ last → r ≡ block_came map b → r ≡ false → false ≡ whole (arrived map) start (end - start)
+module _ (map : List ℕ) (start end b : ℕ) (s : Blocks map start b) (some : 0 < length map) (lt : start < end) where
+  pub block_lost : {r : Bool} → b < (end - 1) / 512 + 1 → r ≡ block_came map b → r ≡ false → false ≡ whole (arrived map) start (end - start)
   unfolding arrived
   block_lost {r} h q f = sym (by (leb start (512 * b)) refl)
     where
@@ -94,7 +93,7 @@ module _ (map : List ℕ) (start end last b : ℕ) (s : Blocks map start b) (som
           let e : start / 512 ≡ b = omega (arith, leb-false start (512 * b) t, s.from_start) in
           whole_no (arrived map) (end - start) start start (omega arith) (omega arith) (off start e)
 
-  pub blocks_done : last < b → true ≡ whole (arrived map) start (end - start)
+  pub blocks_done : (end - 1) / 512 + 1 ≤ b → true ≡ whole (arrived map) start (end - start)
   unfolding arrived
   blocks_done h = sym (whole_yes (arrived map) (end - start) start came)
     where
@@ -137,9 +136,9 @@ module _ (file map : List ℕ) (start n : ℕ) where
 
 -- the same as a check
 tell_of : Reach → Verdict
-tell_of Inside = VerdictIs.Fine
-tell_of Outside = VerdictIs.Refused truncated
-tell_of Missing = VerdictIs.Refused not_arrived
+tell_of Inside = no_refusal
+tell_of Outside = Err truncated
+tell_of Missing = Err not_arrived
 
 module _ (v : Seen) (start n : ℕ) {r : Reach} (e : r ≡ reach_of v start n) where
   tells : tell_of r ≡ verdict (there v start n)
@@ -147,7 +146,7 @@ module _ (v : Seen) (start n : ℕ) {r : Reach} (e : r ≡ reach_of v start n) w
   tells = ap tell_of e ∙ by (inside v.size start n) (whole v.came start n)
     where
       by : (b w : Bool) → tell_of (pick b (pick w Inside Missing) Outside)
-          ≡ pick b (pick w VerdictIs.Fine (VerdictIs.Refused not_arrived)) (VerdictIs.Refused truncated)
+          ≡ pick b (pick w no_refusal (Err not_arrived)) (Err truncated)
       by true true = refl
       by true false = refl
       by false w = refl
@@ -162,17 +161,18 @@ module _ (v : Seen) (start n : ℕ) {r : Reach} (e : r ≡ reach_of v start n) w
       by Outside = refl
       by Missing = refl
 
-  pub need_inside : r ≡ Inside → VerdictIs.Fine ≡ verdict (there v start n)
+module _ (v : Seen) (start n : ℕ) where
+  pub need_inside : Inside ≡ reach_of v start n → no_refusal ≡ verdict (there v start n)
   unfolding tell_of
-  need_inside q = sym (ap tell_of q) ∙ tells
+  need_inside e = tells v start n e
 
-  pub need_outside : r ≡ Outside → VerdictIs.Refused truncated ≡ verdict (there v start n)
+  pub need_outside : Outside ≡ reach_of v start n → Err truncated ≡ verdict (there v start n)
   unfolding tell_of
-  need_outside q = sym (ap tell_of q) ∙ tells
+  need_outside e = tells v start n e
 
-  pub need_missing : r ≡ Missing → VerdictIs.Refused not_arrived ≡ verdict (there v start n)
+  pub need_missing : Missing ≡ reach_of v start n → Err not_arrived ≡ verdict (there v start n)
   unfolding tell_of
-  need_missing q = sym (ap tell_of q) ∙ tells
+  need_missing e = tells v start n e
 
 pub ruleset blocks = (block_read, block_beyond, no_block, next_block, block_lost, blocks_done, not-true, not-false, rules)
 

@@ -7,23 +7,23 @@ use lib.Dec.{eqb}
 use borrow.Author.Rules.{rules}
 use borrow.Author.Tests.{eqb-true, eqb-false, eq-eqb, ne_eqb}
 use Rattle.lists.specs.Lists.{pick}
-use Rattle.checks.specs.Numbers.{map_size}
+use Rattle.checks.specs.Numbers.{map_size, no_refusal}
 use Rattle.checks.specs.Checks.{verdict, Holds, cost}
-use Rattle.checks.specs.declared.Verdict.TheVariants.{Fine, Refused}
 use Rattle.seen.specs.Seen.{map_length, map_checks}
+use Rattle.std.specs.Prelude.{Err}
 
 module _ (size n : ℕ) where
-  pub no_map_lent : n ≡ 0 → Fine ≡ verdict (map_checks size n)
+  pub no_map_lent : n ≡ 0 → no_refusal ≡ verdict (map_checks size n)
   unfolding verdict
   no_map_lent z = rw (eq-eqb n 0 z)
 
   module _ (some : n ≡ 0 → ⊥) where
     module _ {m : ℕ} (wanted : m ≡ map_length size) where
-      pub map_fits : n ≡ m → Fine ≡ verdict (map_checks size n)
+      pub map_fits : n ≡ m → no_refusal ≡ verdict (map_checks size n)
       unfolding verdict
       map_fits e = rw (ne_eqb n 0 some, eq-eqb n (map_length size) (e ∙ wanted))
 
-      pub map_differs : (n ≡ m → ⊥) → Refused map_size ≡ verdict (map_checks size n)
+      pub map_differs : (n ≡ m → ⊥) → Err map_size ≡ verdict (map_checks size n)
       unfolding verdict
       map_differs d = rw (ne_eqb n 0 some, ne_eqb n (map_length size) (λ e. d (e ∙ sym wanted)))
 

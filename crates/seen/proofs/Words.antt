@@ -11,15 +11,14 @@ use lib.Dec.{leb}
 use borrow.Author.Rules.{rules}
 use borrow.Author.Tests.{leb-true, leb-false, le-leb}
 use Rattle.lists.specs.Lists.{pick, span}
-use Rattle.checks.specs.Numbers.{truncated, not_arrived}
+use Rattle.checks.specs.Numbers.{truncated, not_arrived, Verdict, no_refusal}
 use Rattle.checks.specs.Checks.{verdict, Holds}
-use Rattle.checks.specs.declared.Verdict.{Verdict}
-use Rattle.checks.specs.declared.Verdict.TheVariants as VerdictIs
-use Rattle.checks.proofs.Exact.{fine, refused_fine}
+use Rattle.checks.proofs.Exact.{fine, refused_passed}
 use Rattle.seen.specs.Seen.{Seen, seen, came_in, whole, inside, reach_of, there, There, two, four}
 use Rattle.seen.specs.declared.Reach.{Reach}
 use Rattle.seen.specs.declared.Reach.TheVariants.{Inside, Outside, Missing}
 use Rattle.seen.proofs.Blocks.{true_false, whole_at, whole_part}
+use Rattle.std.specs.Prelude.{Ok, Err}
 
 pub there_part : (v : Seen) (start n at m : ℕ) → There v start n → start ≤ at → at + m ≤ start + n → There v at m
 there_part v start n at m t a b = record { in_file = omega arith; came_all = whole_part v.came n start m at t.came_all a b }
@@ -54,34 +53,37 @@ module _ (v : Seen) (at n : ℕ) where
   unfolding Holds
   holds_there h = record { in_file = inside_le v.size at n h.0; came_all = h.1.0 }
 
+  other_refusal : ◌≡◌ {A = Verdict} (Err not_arrived) (Err truncated) → ⊥
+  other_refusal q = cc
+
   -- its answer by its two tests
   abbrev told : Bool → Bool → Verdict
-  told inner all = pick inner (pick all VerdictIs.Fine (VerdictIs.Refused not_arrived)) (VerdictIs.Refused truncated)
+  told inner all = pick inner (pick all no_refusal (Err not_arrived)) (Err truncated)
 
   -- it refuses with 1 exactly if one of the bytes lies outside the file, and with 8 exactly if none does and one did not come (rule 2.1)
-  pub there_outside : (verdict (there v at n) ≡ VerdictIs.Refused truncated) ↔ (v.size < at + n)
+  pub there_outside : (verdict (there v at n) ≡ Err truncated) ↔ (v.size < at + n)
   unfolding verdict
   there_outside = by (inside v.size at n) (whole v.came at n) refl
     where
-      by : (b w : Bool) → inside v.size at n ≡ b → (told b w ≡ VerdictIs.Refused truncated) ↔ (v.size < at + n)
-      by true true x = (λ q. absurd (refused_fine truncated (sym q)), λ l. absurd (omega (arith, inside_le v.size at n x)))
-      by true false x = (λ q. absurd (let k : not_arrived ≡ truncated = cc in omega arith), λ l. absurd (omega (arith, inside_le v.size at n x)))
+      by : (b w : Bool) → inside v.size at n ≡ b → (told b w ≡ Err truncated) ↔ (v.size < at + n)
+      by true true x = (λ q. absurd (refused_passed truncated tt (sym q)), λ l. absurd (omega (arith, inside_le v.size at n x)))
+      by true false x = (λ q. absurd (other_refusal q), λ l. absurd (omega (arith, inside_le v.size at n x)))
       by false w x = (λ q. inside_beyond v.size at n x, λ l. refl)
 
-  pub there_missing : (verdict (there v at n) ≡ VerdictIs.Refused not_arrived) ↔ ((at + n ≤ v.size) × (whole v.came at n ≡ false))
+  pub there_missing : (verdict (there v at n) ≡ Err not_arrived) ↔ ((at + n ≤ v.size) × (whole v.came at n ≡ false))
   unfolding verdict
   there_missing = by (inside v.size at n) (whole v.came at n) refl
     where
-      by : (b w : Bool) → inside v.size at n ≡ b → (told b w ≡ VerdictIs.Refused not_arrived) ↔ ((at + n ≤ v.size) × (w ≡ false))
-      by true true x = (λ q. absurd (refused_fine not_arrived (sym q)), λ p. absurd (true_false refl p.1))
+      by : (b w : Bool) → inside v.size at n ≡ b → (told b w ≡ Err not_arrived) ↔ ((at + n ≤ v.size) × (w ≡ false))
+      by true true x = (λ q. absurd (refused_passed not_arrived tt (sym q)), λ p. absurd (true_false refl p.1))
       by true false x = (λ q. (inside_le v.size at n x, refl), λ p. refl)
       by false w x = (
-        λ q. absurd (let k : truncated ≡ not_arrived = cc in omega arith),
+        λ q. absurd (other_refusal (sym q)),
         λ p. absurd (omega (arith, inside_beyond v.size at n x)),
       )
 
-  pub there_of : {r : Verdict} → r ≡ verdict (there v at n) → r ≡ VerdictIs.Fine → There v at n
-  there_of e q = holds_there ((fine (there v at n)).0 (sym e ∙ q))
+  pub there_of : {y : Unit {0}} → Ok y ≡ verdict (there v at n) → There v at n
+  there_of e = holds_there ((fine (there v at n)).0 (sym e))
 
   pub inside_there : {r : Reach} → r ≡ reach_of v at n → r ≡ Inside → There v at n
   unfolding reach_of
@@ -89,8 +91,8 @@ module _ (v : Seen) (at n : ℕ) where
     where
       by : (b w : Bool) → inside v.size at n ≡ b → whole v.came at n ≡ w → pick b (pick w Inside Missing) Outside ≡ Inside → There v at n
       by true true x y z = record { in_file = inside_le v.size at n x; came_all = y }
-      by true false x y z = absurd (let k : ◌≡◌ {A = ℕ} 0 1 = cc in omega arith)
-      by false w x y z = absurd (let k : ◌≡◌ {A = ℕ} 0 1 = cc in omega arith)
+      by true false x y z = absurd cc
+      by false w x y z = absurd cc
 
 -- the bytes of a range that is there
 module _ (file map : List ℕ) (at : ℕ) where

@@ -1,7 +1,7 @@
 -- What is seen of a file under a delivery map: its size, which bytes came, and the bytes as far as they came.
 use Rattle.std.specs.Prelude.{ℕ, zero, suc, ◌+◌, ◌-◌, ◌*◌, ◌/◌, ◌<◌, ◌≤◌, ◌≡◌, List, [], ◌∷◌, Bool, true, false, length, get_or, set, replicate, ltb, leb, eqb}
 use Rattle.lists.specs.Lists.{pick, lesser}
-use Rattle.checks.specs.Numbers.{truncated, not_arrived, map_size}
+use Rattle.checks.specs.Numbers.{number_of, truncated, not_arrived, map_size}
 use Rattle.checks.specs.Checks.{Check, must}
 use Rattle.seen.specs.declared.Reach.{Reach}
 use Rattle.seen.specs.declared.Reach.TheVariants.{Inside, Outside, Missing}
@@ -75,8 +75,8 @@ reach_of v start n = pick (inside v.size start n) (pick (whole v.came start n) I
 -- the number that it stands for: outside 1, not arrived 8 (rule 2.1)
 abbrev pub reach_number : Reach → ℕ
 reach_number Inside = 0
-reach_number Outside = truncated
-reach_number Missing = not_arrived
+reach_number Outside = number_of truncated
+reach_number Missing = number_of not_arrived
 
 -- n bytes from start are needed: outside the file is refused first (rule 2.1)
 abbrev pub there : Seen → ℕ → ℕ → List Check

@@ -4,21 +4,19 @@
 ghost use Rattle.std.specs.Prelude.{◌≡◌, ◌<◌};
 ghost use Rattle.seen.specs.Seen.{seen, There, two, four};
 
-fn wide(x: u8) -> usize
-    ensures { (result ≡ x) × (result < 256) }
-{
-    x as usize
-}
-
 // The word of two bytes at a place where they are.
+#[tactic(auto, using(seen::proofs::Words::words))]
 pub fn word2(file: &[u8], map: &[u8], big: bool, at: usize) -> usize
     requires { There (seen file.now map.now) at 2 }
     ensures { (result ≡ two big (seen file.now map.now) at) × (result < 65536) }
 {
-    let a = wide(file[at]);
-    let next = at + 1;
-    let b = wide(file[next]);
-    if big { a * 256 + b } else { a + b * 256 }
+    let bytes = [file[at], file[at + 1]];
+    let word = if big {
+        u16::from_be_bytes(bytes)
+    } else {
+        u16::from_le_bytes(bytes)
+    };
+    usize::from(word)
 }
 
 // The word of four bytes at a place where they are.
@@ -26,7 +24,11 @@ pub fn word4(file: &[u8], map: &[u8], big: bool, at: usize) -> usize
     requires { There (seen file.now map.now) at 4 }
     ensures { (result ≡ four big (seen file.now map.now) at) × (result < 4294967296) }
 {
-    let a = word2(file, map, big, at);
-    let b = word2(file, map, big, at + 2);
-    if big { a * 65536 + b } else { a + b * 65536 }
+    let bytes = [file[at], file[at + 1], file[at + 2], file[at + 3]];
+    let word = if big {
+        u32::from_be_bytes(bytes)
+    } else {
+        u32::from_le_bytes(bytes)
+    };
+    word as usize
 }

@@ -5,8 +5,8 @@ use Rattle.checks.proofs.product3.Goals as goal
 pub returns-then-a-eq0 : goal.returns-then-a-eq0
 returns-then-a-eq0 c = search product3_none
 
-pub returns-in-Fits : goal.returns-in-Fits
-returns-in-Fits c = search product3_is
+pub returns-in_err-product : goal.returns-in_err-product
+returns-in_err-product c = rw c.from_residual.ensures (product3_over _ _ c.if-a-eq0.false c.in_err-product.ensures)
 
-pub returns-in-Over : goal.returns-in-Over
-returns-in-Over c = search product3_over
+pub returns : goal.returns
+returns c = product3_is _ _ _ c.in_ok-product.ensures c.product-2.ensures

@@ -1,21 +1,14 @@
--- The eight bytes are there, or the number says what they lack.
-use Rattle.header.proofs.Orders.{headers}
+-- The eight bytes are needed first, then their order.
+use Rattle.checks.proofs.Rules.{handed_on}
+use Rattle.seen.proofs.Words.{there_of}
+use Rattle.header.proofs.Orders.{header_refused, header_read}
 use Rattle.header.proofs.read_header.Goals as goal
 
-pub need-requires : goal.need-requires
-need-requires c = search headers
-
-pub enum_known-e : goal.enum_known-e
-enum_known-e c = search headers
-
-pub enum_told-1 : goal.enum_told-1
-enum_told-1 c = search headers
+pub returns-in_err-need : goal.returns-in_err-need
+returns-in_err-need c = handed_on c.from_residual.ensures.1 (header_refused _ c.in_err-need.ensures)
 
 pub read_order-requires : goal.read_order-requires
-read_order-requires c = search headers
+read_order-requires c = there_of _ _ _ c.in_ok-need.ensures
 
-pub returns-in-Refused : goal.returns-in-Refused
-returns-in-Refused c = search headers
-
-pub returns-in-Fine : goal.returns-in-Fine
-returns-in-Fine c = search headers
+pub returns : goal.returns
+returns c = header_read _ c.in_ok-need.ensures c.read_order.ensures

@@ -1,31 +1,19 @@
--- Two words of two bytes that are there, put together in the file's order.
-use Rattle.seen.proofs.Words.{words, there_part}
-use native.Mathlib.Omega.{arith}
+-- Four bytes that are there are those seen.
+use Rattle.std.proofs.Common.{◌+◌, arith}
+use Rattle.std.proofs.lemmas.Grind.{common_steps}
+use Rattle.seen.specs.Seen.{four, two}
+use Rattle.seen.proofs.Words.{byte_came}
 use Rattle.words.proofs.word4.Goals as goal
+use Rattle.words.proofs.word4.Goals.{then-big, else-big}
 
-pub word2-a-requires : goal.word2-a-requires
-word2-a-requires c = there_part _ _ _ _ _ c.requires (omega arith) (omega arith)
-
-pub overflow_add-at : goal.overflow_add-at
-overflow_add-at c = search words
-
-pub word2-b-requires : goal.word2-b-requires
-word2-b-requires c = there_part _ _ _ _ _ c.requires (omega arith) (omega arith)
-
-pub overflow_mul-result : goal.overflow_mul-result
-overflow_mul-result c = search words
-
-pub overflow_add-result : goal.overflow_add-result
-overflow_add-result c = search words
-
-pub overflow_mul-result-else-big : goal.overflow_mul-result-else-big
-overflow_mul-result-else-big c = search words
-
-pub overflow_add-result-else-big : goal.overflow_add-result-else-big
-overflow_add-result-else-big c = search words
-
-pub returns-then-big : goal.returns-then-big
-returns-then-big c = search words
-
-pub returns-else-big : goal.returns-else-big
-returns-else-big c = search words
+pub returns : goal.returns
+unfolding four two
+returns c =
+    let f = c.args.file.now in
+    let m = c.args.map.now in
+    let at = c.args.at in
+    let b0 = byte_came f m at 4 c.requires at (omega arith) (omega arith) in
+    let b1 = byte_came f m at 4 c.requires (at + 1) (omega arith) (omega arith) in
+    let b2 = byte_came f m at 4 c.requires (at + 2) (omega arith) (omega arith) in
+    let b3 = byte_came f m at 4 c.requires (at + 2 + 1) (omega arith) (omega arith) in
+    elim c.if-big.branch [ then-big w ↦ grind (arith, common_steps, b0, b1, b2, b3) | else-big w ↦ grind (arith, common_steps, b0, b1, b2, b3) ]
