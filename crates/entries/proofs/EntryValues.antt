@@ -1,7 +1,8 @@
 -- Type, count and values of an entry that is there: what the code reads is what the definitions say.
 use Prim.Native.Nat.{ℕ, ◌+◌, ◌*◌, ◌^◌, ◌<◌, ◌≤◌}
-use mathlib.Core.Path.{◌≡◌, refl, sym, ap, ◌∙◌}
+use mathlib.Core.Path.{◌≡◌, refl, sym, ◌∙◌}
 use mathlib.Core.Bool.{Bool, true, false}
+use mathlib.Core.List.{List}
 use native.Mathlib.Omega.{arith}
 use native.Mathlib.Nat.{mul-le-mul}
 use lib.Dec.{eqb}
@@ -10,20 +11,16 @@ use mir.Val.{Fits}
 use borrow.Author.Rules.{rules}
 use borrow.Author.Tests.{eq-eqb, ne_eqb, le-leb, lt-leb}
 use Rattle.lists.specs.Lists.{pick}
-use Rattle.checks.specs.Numbers.{truncated, not_arrived, verdict_number}
-use Rattle.checks.specs.Checks.{verdict}
-use Rattle.checks.specs.declared.Verdict.{Verdict}
-use Rattle.checks.specs.declared.Verdict.TheVariants as VerdictIs
-use Rattle.seen.specs.Seen.{Seen, there, There, two, four, reach_of}
-use Rattle.seen.specs.declared.Reach.{Reach}
-use Rattle.seen.specs.declared.Reach.TheVariants as ReachIs
-use Rattle.seen.proofs.Blocks.{need_inside, need_outside, need_missing}
-use Rattle.seen.proofs.Words.{there_part, inside_there}
-use Rattle.entries.specs.Values.{count_at, numeric, has_values, size_of, word_at, in_field, place_of, value_at, value_is, value_number}
+use Rattle.std.specs.Prelude.{Ok, Err}
+use Rattle.checks.specs.Numbers.{no_refusal}
+use Rattle.checks.specs.Checks.{Check, verdict}
+use Rattle.checks.specs.declared.Refusal.{Refusal}
+use Rattle.checks.proofs.Rules.{tests_refused, tests_passed}
+use Rattle.seen.specs.Seen.{Seen, there, There, two, four}
+use Rattle.seen.proofs.Words.{there_part, there_of}
+use Rattle.entries.specs.Values.{count_at, numeric, has_values, size_of, word_at, in_field, place_of, value_at, value_is}
 use Rattle.entries.specs.Inner.{WordThere}
 use Rattle.tags.proofs.Entries.{type_there}
-use Rattle.entries.specs.declared.Value.{Value}
-use Rattle.entries.specs.declared.Value.TheVariants.{Outside, Missing, Number}
 
 -- the parts of an entry behind its tag and type: count and field
 module _ (v : Seen) (e : ℕ) (t : There v e 12) where
@@ -116,58 +113,32 @@ module _ (v : Seen) (big : Bool) (e : ℕ) where
       let s = size_small in
       record { entry = t; word = there_part v e 12 (e + 8) (size_of v big e) t (omega arith) (omega arith) }
 
-  -- value i by where its bytes are
-  module _ (i at size : ℕ) {r : Reach} (placed : at ≡ place_of v big e i) (measured : size ≡ size_of v big e) (asked : r ≡ reach_of v at size) where
-    pub value_outside : r ≡ ReachIs.Outside → Outside ≡ value_is v big e i
+  -- value i is there with its entry, and given where its bytes are
+  module _ (i at size : ℕ) (placed : at ≡ place_of v big e i) (measured : size ≡ size_of v big e) where
+    pub value_refused : {r : Refusal} → Err r ≡ verdict (there v at size) → Err r ≡ value_is v big e i
     unfolding value_is
-    value_outside q = simp (← placed, ← measured, ← asked, q)
+    value_refused q = rw (← placed, ← measured, ← q)
 
-    pub value_missing : r ≡ ReachIs.Missing → Missing ≡ value_is v big e i
-    unfolding value_is
-    value_missing q = simp (← placed, ← measured, ← asked, q)
+    module _ {y : Unit {0}} (q : Ok y ≡ verdict (there v at size)) where
+      pub value_there : There v e 12 → WordThere v big e at
+      value_there t = record { entry = t; word = rw measured at (there_of v at size q) }
 
-    pub value_there : There v e 12 → r ≡ ReachIs.Inside → WordThere v big e at
-    value_there t q = record { entry = t; word = inside_there v at (size_of v big e) (asked ∙ ap (reach_of v at) measured) q }
-
-    pub value_number_lem : (n : ℕ) → n ≡ word_at v big e at → r ≡ ReachIs.Inside → Number n ≡ value_is v big e i
-    unfolding value_is
-    value_number_lem n w q = simp (← placed, ← measured, ← asked, q, ← w)
+      pub value_given : {n : ℕ} → n ≡ word_at v big e at → Ok n ≡ value_is v big e i
+      unfolding value_is
+      value_given w = rw (← placed, ← measured, ← q, ← w)
 
 -- what a value says of the check of its bytes
-abbrev pub value_verdict : Value → Verdict
-value_verdict Outside = VerdictIs.Refused truncated
-value_verdict Missing = VerdictIs.Refused not_arrived
-value_verdict (Number n) = VerdictIs.Fine
-
 module _ (v : Seen) (big : Bool) (e i : ℕ) where
-  by_reach : (q : Reach) → reach_of v (place_of v big e i) (size_of v big e) ≡ q
-      → verdict (there v (place_of v big e i) (size_of v big e)) ≡ value_verdict (value_is v big e i)
+  abbrev bytes : List Check
+  bytes = there v (place_of v big e i) (size_of v big e)
+
+  pub value_stops : {r : Refusal} → Err r ≡ value_is v big e i → verdict bytes ≡ Err r
   unfolding value_is
-  by_reach ReachIs.Outside t = rw t (sym (need_outside v (place_of v big e i) (size_of v big e) refl t))
-  by_reach ReachIs.Missing t = rw t (sym (need_missing v (place_of v big e i) (size_of v big e) refl t))
-  by_reach ReachIs.Inside t = rw t (sym (need_inside v (place_of v big e i) (size_of v big e) refl t))
+  value_stops q = tests_refused (verdict bytes) (value_at v big e i) _ q
 
-  number : (x : ℕ) (q : Reach) → reach_of v (place_of v big e i) (size_of v big e) ≡ q → value_is v big e i ≡ Number x → x ≡ value_at v big e i
+  pub value_is_lem : {x : ℕ} → Ok x ≡ value_is v big e i → (verdict bytes ≡ no_refusal) × (x ≡ value_at v big e i)
   unfolding value_is
-  number x ReachIs.Inside t h = let k : Number (value_at v big e i) ≡ Number x = rw t at h in cc
-  number x ReachIs.Outside t h = let k : Outside ≡ Number x = rw t at h in let z : ◌≡◌ {A = ℕ} 0 1 = cc in absurd (omega arith)
-  number x ReachIs.Missing t h = let k : Missing ≡ Number x = rw t at h in let z : ◌≡◌ {A = ℕ} 0 1 = cc in absurd (omega arith)
-
-  module _ {r : Value} (er : r ≡ value_is v big e i) where
-    pub value_verdict_lem : verdict (there v (place_of v big e i) (size_of v big e)) ≡ value_verdict r
-    value_verdict_lem = by_reach (reach_of v (place_of v big e i) (size_of v big e)) refl ∙ ap value_verdict (sym er)
-
-    -- so its number is that of the check
-    pub value_told : value_number r ≡ verdict_number (verdict (there v (place_of v big e i) (size_of v big e)))
-    value_told = numbered r ∙ ap verdict_number (sym value_verdict_lem)
-      where
-        numbered : (x : Value) → value_number x ≡ verdict_number (value_verdict x)
-        numbered Outside = refl
-        numbered Missing = refl
-        numbered (Number n) = refl
-
-    pub value_is_lem : (x : ℕ) → r ≡ Number x → x ≡ value_at v big e i
-    value_is_lem x q = number x (reach_of v (place_of v big e i) (size_of v big e)) refl (sym er ∙ q)
+  value_is_lem q = tests_passed (verdict bytes) (value_at v big e i) _ q
 
 -- places that fit a word
 module _ (size i : ℕ) (small : size < 5) (some : i < 4294967296) where
@@ -198,4 +169,4 @@ pub ruleset entries = (
   rules,
 )
 
-pub ruleset places = (field_there, place_inline, place_else, value_outside, value_missing, value_there, value_number_lem, rules)
+pub ruleset places = (field_there, place_inline, place_else, scaled_fits, placed_fits, rules)

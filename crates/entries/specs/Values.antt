@@ -1,13 +1,10 @@
 -- Values of an entry: those that take four bytes or fewer together stand in the entry's field, others at the place that the field holds.
-use Rattle.std.specs.Prelude.{ℕ, ◌+◌, ◌*◌, Bool, ◌&&◌, ◌||◌, leb, eqb}
+use Rattle.std.specs.Prelude.{ℕ, ◌+◌, ◌*◌, Bool, ◌&&◌, ◌||◌, leb, eqb, Result}
 use Rattle.lists.specs.Lists.{pick}
-use Rattle.checks.specs.Numbers.{truncated, not_arrived}
-use Rattle.seen.specs.Seen.{Seen, two, four, reach_of}
-use Rattle.seen.specs.declared.Reach.{Reach}
-use Rattle.seen.specs.declared.Reach.TheVariants as ReachIs
+use Rattle.checks.specs.Checks.{verdict, giving}
+use Rattle.checks.specs.declared.Refusal.{Refusal}
+use Rattle.seen.specs.Seen.{Seen, there, two, four}
 use Rattle.tags.specs.Tags.{type_at}
-use Rattle.entries.specs.declared.Value.{Value}
-use Rattle.entries.specs.declared.Value.TheVariants.{Outside, Missing, Number}
 
 module _ (v : Seen) (big : Bool) (e : ℕ) where
   -- how many values an entry has, and whether they are n of type 3 or 4 (rule 2.11)
@@ -43,16 +40,6 @@ module _ (v : Seen) (big : Bool) (e : ℕ) where
   abbrev pub value_at : ℕ → ℕ
   value_at i = word_at (place_of i)
 
-  abbrev value_where : Reach → ℕ → Value
-  value_where ReachIs.Outside n = Outside
-  value_where ReachIs.Missing n = Missing
-  value_where ReachIs.Inside n = Number n
-
-  unfoldable pub value_is : ℕ → Value
-  value_is i = value_where (reach_of v (place_of i) size_of) (value_at i)
-
--- the number of what is not given: bytes outside the file, or not arrived; 0 where there is a number
-abbrev pub value_number : Value → ℕ
-value_number Outside = truncated
-value_number Missing = not_arrived
-value_number (Number n) = 0
+  -- value i, where its bytes are there
+  unfoldable pub value_is : ℕ → Result ℕ Refusal
+  value_is i = giving (verdict (there v (place_of i) size_of)) (value_at i)

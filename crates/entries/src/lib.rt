@@ -6,29 +6,20 @@ ghost use Rattle.seen.specs.Seen.{seen, There};
 ghost use Rattle.entries.specs.Values.{count_at, numeric, has_values, size_of, place_of, word_at, scalar_of, value_is};
 ghost use Rattle.entries.specs.Inner.{WordThere};
 
-use seen::Reach;
-
-// One value of an array: where it lies, or the number.
-#[derive(Clone, Copy)]
-pub enum Value {
-    Outside,
-    Missing,
-    Number(usize),
-}
+use checks::Refusal;
 
 // Whether the type is 3 or 4.
+#[tactic(auto, using(crate::proofs::EntryValues::entries))]
 fn is_numeric(file: &[u8], map: &[u8], big: bool, entry: usize) -> bool
     requires { There (seen file.now map.now) entry 12 }
     ensures { result ≡ numeric (seen file.now map.now) big entry }
 {
     let kind = words::word2(file, map, big, entry + 2);
-    if kind == 3 {
-        return true;
-    }
-    kind == 4
+    kind == 3 || kind == 4
 }
 
 // How many values.
+#[tactic(auto, using(crate::proofs::EntryValues::entries))]
 fn count_of(file: &[u8], map: &[u8], big: bool, entry: usize) -> usize
     requires { There (seen file.now map.now) entry 12 }
     ensures { (result ≡ count_at (seen file.now map.now) big entry) × (result < 4294967296) }
@@ -37,17 +28,16 @@ fn count_of(file: &[u8], map: &[u8], big: bool, entry: usize) -> usize
 }
 
 // Whether it has n values of type 3 or 4.
+#[tactic(auto, using(crate::proofs::EntryValues::entries))]
 pub fn has_values(file: &[u8], map: &[u8], big: bool, entry: usize, n: usize) -> bool
     requires { There (seen file.now map.now) entry 12 }
     ensures { result ≡ has_values (seen file.now map.now) big entry n }
 {
-    if count_of(file, map, big, entry) != n {
-        return false;
-    }
-    is_numeric(file, map, big, entry)
+    count_of(file, map, big, entry) == n && is_numeric(file, map, big, entry)
 }
 
 // The bytes of one value.
+#[tactic(auto, using(crate::proofs::EntryValues::entries))]
 fn size_of(file: &[u8], map: &[u8], big: bool, entry: usize) -> usize
     requires { There (seen file.now map.now) entry 12 }
     ensures { (result ≡ size_of (seen file.now map.now) big entry) × (result < 5) }
@@ -57,6 +47,7 @@ fn size_of(file: &[u8], map: &[u8], big: bool, entry: usize) -> usize
 }
 
 // The value of the entry's type at a place where its bytes are.
+#[tactic(auto, using(crate::proofs::EntryValues::entries))]
 fn word_at(file: &[u8], map: &[u8], big: bool, entry: usize, at: usize) -> usize
     requires { WordThere (seen file.now map.now) big entry at }
     ensures { (result ≡ word_at (seen file.now map.now) big entry at) × (result < 4294967296) }
@@ -69,6 +60,7 @@ fn word_at(file: &[u8], map: &[u8], big: bool, entry: usize, at: usize) -> usize
 }
 
 // A single value: left-justified in the entry's field.
+#[tactic(auto, using(crate::proofs::EntryValues::entries))]
 pub fn scalar(file: &[u8], map: &[u8], big: bool, entry: usize) -> usize
     requires { There (seen file.now map.now) entry 12 }
     ensures { (result ≡ scalar_of (seen file.now map.now) big entry) × (result < 4294967296) }
@@ -77,6 +69,7 @@ pub fn scalar(file: &[u8], map: &[u8], big: bool, entry: usize) -> usize
 }
 
 // Where value i lies: in the entry's field if all values fit there, else from the offset that it holds.
+#[tactic(auto, using(crate::proofs::EntryValues::places))]
 fn place_of(file: &[u8], map: &[u8], big: bool, entry: usize, i: usize) -> usize
     requires { There (seen file.now map.now) entry 12 × (i < count_at (seen file.now map.now) big entry) }
     ensures { result ≡ place_of (seen file.now map.now) big entry i }
@@ -89,15 +82,18 @@ fn place_of(file: &[u8], map: &[u8], big: bool, entry: usize, i: usize) -> usize
     words::word4(file, map, big, entry + 8) + size * i
 }
 
-// Value i, where it lies in the file and came.
-pub fn value_at(file: &[u8], map: &[u8], big: bool, entry: usize, i: usize) -> Value
+// Value i: outside the file 1, not arrived 8.
+pub fn value_at(
+    file: &[u8],
+    map: &[u8],
+    big: bool,
+    entry: usize,
+    i: usize,
+) -> Result<usize, Refusal>
     requires { There (seen file.now map.now) entry 12 × (i < count_at (seen file.now map.now) big entry) }
     ensures { result ≡ value_is (seen file.now map.now) big entry i }
 {
     let at = place_of(file, map, big, entry, i);
-    match seen::reached(file, map, at, size_of(file, map, big, entry)) {
-        Reach::Outside => Value::Outside,
-        Reach::Missing => Value::Missing,
-        Reach::Inside => Value::Number(word_at(file, map, big, entry, at)),
-    }
+    seen::need(file, map, at, size_of(file, map, big, entry))?;
+    Ok(word_at(file, map, big, entry, at))
 }

@@ -1,33 +1,14 @@
--- Where the bytes of the value are decides, and a word is read only if they are there.
-use Rattle.entries.proofs.EntryValues.{places}
+-- A word is read only where its bytes are.
+use Rattle.checks.proofs.Rules.{handed_on}
+use Rattle.entries.proofs.EntryValues.{value_refused, value_there, value_given}
 use Rattle.entries.proofs.value_at.Goals as goal
 
-pub place_of-at-requires : goal.place_of-at-requires
-place_of-at-requires c = search places
-
-pub size_of-requires : goal.size_of-requires
-size_of-requires c = search places
-
-pub reached-requires : goal.reached-requires
-reached-requires c = search places
-
-pub enum_told-1 : goal.enum_told-1
-enum_told-1 c = search places
-
-pub enum_told-in-Missing : goal.enum_told-in-Missing
-enum_told-in-Missing c = search places
-
-pub enum_told-in-Inside : goal.enum_told-in-Inside
-enum_told-in-Inside c = search places
+pub returns-in_err-need : goal.returns-in_err-need
+returns-in_err-need c =
+    handed_on c.from_residual.ensures.1 (value_refused _ _ _ _ _ _ c.place_of-at.ensures c.size_of.ensures.0 c.in_err-need.ensures)
 
 pub word_at-requires : goal.word_at-requires
-word_at-requires c = search places
+word_at-requires c = value_there _ _ _ _ _ _ c.place_of-at.ensures c.size_of.ensures.0 c.in_ok-need.ensures c.requires.0
 
-pub returns-in-Outside : goal.returns-in-Outside
-returns-in-Outside c = search places
-
-pub returns-in-Missing : goal.returns-in-Missing
-returns-in-Missing c = search places
-
-pub returns-in-Inside : goal.returns-in-Inside
-returns-in-Inside c = search places
+pub returns : goal.returns
+returns c = value_given _ _ _ _ _ _ c.place_of-at.ensures c.size_of.ensures.0 c.in_ok-need.ensures c.word_at.ensures.0
