@@ -9,9 +9,9 @@ use borrow.Author.Rules.{rules}
 use Rattle.head.specs.Heads.{Head, planes_of, bytes_of}
 use Rattle.head.proofs.Heads.{planes_most, bytes_most}
 use Rattle.checks.specs.Sizes.{within}
-use Rattle.checks.specs.declared.Size.{Size}
 use Rattle.geometry.specs.Geometry.{most_side, most_area}
 use Rattle.geometry.specs.Costs.{needed_for, scratch_for, fee}
+use Rattle.std.specs.Prelude.{Option}
 
 module _ (width rows : ℕ) (a : width ≤ most_side) (b : rows ≤ most_side) where
   pub area_small : width * rows ≤ most_area
@@ -45,7 +45,7 @@ module _ (head : Head) (p : ℕ) (ep : p ≡ planes_of head) (area : ℕ) where
     pub scratch_fits : area ≤ most_area → Fits w64 ((p + b) * area)
     scratch_fits a = record { fits = omega (arith, scratch_low a) }
 
-pub fee_told : (head : Head) (count area s : ℕ) → s ≡ scratch_for head area → {r : Size} → r ≡ within (count + (2 * s + 1)) → r ≡ within (fee head count area)
+pub fee_told : (head : Head) (count area s : ℕ) → s ≡ scratch_for head area → {r : Option ℕ} → r ≡ within (count + (2 * s + 1)) → r ≡ within (fee head count area)
 fee_told head count area s es e = let same : count + (2 * s + 1) ≡ fee head count area = omega arith in rw same at e
 
 pub ruleset costs = (area_small, area_fits, needed_told, needed_fits, both_fit, scratch_told, scratch_low, scratch_fits, fee_told, rules)

@@ -7,8 +7,6 @@ ghost use Rattle.geometry.specs.Geometry.{most_side, most_area, pieces, rows_of}
 ghost use Rattle.geometry.specs.Costs.{needed_for, scratch_for, fee};
 ghost use Rattle.geometry.specs.Inner.{Cut};
 
-use checks::Size;
-
 // Blocks along a side, the last of which may stand over.
 pub fn pieces_of(side: usize, block: usize) -> usize
     requires { (0 < side) × (0 < block) }
@@ -64,7 +62,7 @@ pub fn scratch_for(mono: bool, area: usize) -> usize
 }
 
 // What so many stored bytes and such an area cost.
-pub fn fee_of(mono: bool, count: usize, area: usize) -> Size
+pub fn fee_of(mono: bool, count: usize, area: usize) -> Option<usize>
     requires { area ≤ most_area }
     ensures { result ≡ within (fee mono count area) }
 {
