@@ -8,6 +8,7 @@ ghost use Rattle.geometry.specs.Costs.{needed_for, scratch_for, fee};
 ghost use Rattle.geometry.specs.Inner.{Cut};
 
 // Blocks along a side, the last of which may stand over.
+#[tactic(auto, using(crate::proofs::Cutting::cutting))]
 pub fn pieces_of(side: usize, block: usize) -> usize
     requires { (0 < side) × (0 < block) }
     ensures { (result ≡ pieces side block) × (result ≤ side) }
@@ -16,6 +17,7 @@ pub fn pieces_of(side: usize, block: usize) -> usize
 }
 
 // Rows of a segment: tiles are always full, the last strip may be short.
+#[tactic(auto, using(crate::proofs::Cutting::cutting))]
 pub fn rows_of(
     tiled: bool,
     height: usize,
@@ -29,15 +31,11 @@ pub fn rows_of(
     if tiled {
         return block_height;
     }
-    let below = height - segment / across * block_height;
-    if below < block_height {
-        below
-    } else {
-        block_height
-    }
+    (height - segment / across * block_height).min(block_height)
 }
 
 // Width × rows, neither above the greatest side of a block, so it is small.
+#[tactic(auto, using(crate::proofs::Costing::costs))]
 pub fn area(width: usize, rows: usize) -> usize
     requires { (width ≤ most_side) × (rows ≤ most_side) }
     ensures { (result ≡ width * rows) × (result ≤ most_area) }
@@ -46,6 +44,7 @@ pub fn area(width: usize, rows: usize) -> usize
 }
 
 // The bytes that packets must fill for an area.
+#[tactic(auto, using(crate::proofs::Costing::costs))]
 pub fn needed_for(mono: bool, area: usize) -> usize
     requires { area ≤ most_area }
     ensures { result ≡ needed_for mono area }
@@ -54,6 +53,7 @@ pub fn needed_for(mono: bool, area: usize) -> usize
 }
 
 // The scratch by way of which an area is shown.
+#[tactic(auto, using(crate::proofs::Costing::costs))]
 pub fn scratch_for(mono: bool, area: usize) -> usize
     requires { area ≤ most_area }
     ensures { (result ≡ scratch_for mono area) × (result ≤ 10 * most_area) }
@@ -62,6 +62,7 @@ pub fn scratch_for(mono: bool, area: usize) -> usize
 }
 
 // What so many stored bytes and such an area cost.
+#[tactic(auto, using(crate::proofs::Costing::costs))]
 pub fn fee_of(mono: bool, count: usize, area: usize) -> Option<usize>
     requires { area ≤ most_area }
     ensures { result ≡ within (fee mono count area) }
