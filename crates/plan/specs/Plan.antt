@@ -1,29 +1,16 @@
 -- The plan of a segment: its two entries, its range, its area and its fee, in order (rules 4.2 a to e).
-use Rattle.std.specs.Prelude.{ℕ, List, [], ◌∷◌, ◌++◌, leb}
+use Rattle.std.specs.Prelude.{ℕ, List, [], ◌∷◌, ◌++◌, leb, Result}
 use Rattle.checks.specs.Numbers.{limit}
-use Rattle.checks.specs.Checks.{Check, must, verdict}
+use Rattle.checks.specs.Checks.{Check, must, verdict, giving}
 use Rattle.checks.specs.Sizes.{most64}
-use Rattle.checks.specs.declared.Verdict.{Verdict}
-use Rattle.checks.specs.declared.Verdict.TheVariants as VerdictIs
+use Rattle.checks.specs.declared.Refusal.{Refusal}
 use Rattle.seen.specs.Seen.{Seen, there}
 use Rattle.entries.specs.Values.{size_of, place_of, value_at}
 use Rattle.geometry.specs.Costs.{scratch_for, fee}
 use Rattle.picture.specs.declared.Format.{Format}
 use Rattle.picture.specs.Picture.{area_of}
-use Rattle.plan.specs.declared.Place.{Place}
-use Rattle.plan.specs.declared.Place.TheVariants as PlaceIs
+use Rattle.plan.specs.declared.Stored.{Stored}
 use Rattle.plan.specs.declared.Plan.{Plan}
-use Rattle.plan.specs.declared.Planned.{Planned}
-use Rattle.plan.specs.declared.Planned.TheVariants as PlannedIs
-
--- the number of each answer (rule 1.1), 0 where nothing is refused
-abbrev pub place_number : Place → ℕ
-place_number (PlaceIs.Refused e) = e
-place_number (PlaceIs.Range offset count) = 0
-
-abbrev pub planned_number : Planned → ℕ
-planned_number (PlannedIs.Refused e) = e
-planned_number (PlannedIs.Fine p) = 0
 
 module _ (v : Seen) (f : Format) (k : ℕ) where
   -- where the stored bytes begin, and how many there are
@@ -46,19 +33,18 @@ module _ (v : Seen) (f : Format) (k : ℕ) where
   unfoldable pub place_checks : List Check
   place_checks = offset_entry ++ (count_entry ++ range_there)
 
-  abbrev pub placed : Verdict → Place
-  placed VerdictIs.Fine = PlaceIs.Range offset_of count_of
-  placed (VerdictIs.Refused e) = PlaceIs.Refused e
+  abbrev pub stored_of : Stored
+  stored_of = record { offset = offset_of; count = count_of }
 
-  abbrev pub place_is : Place
-  place_is = placed (verdict place_checks)
+  abbrev pub place_is : Result Stored Refusal
+  place_is = giving (verdict place_checks) stored_of
 
   -- what it costs (rule 5.3)
   abbrev pub fee_of : ℕ
   fee_of = fee f.mono count_of (area_of f k)
 
   abbrev pub plan_of : Plan
-  plan_of = record { offset = offset_of; count = count_of; fee = fee_of }
+  plan_of = record { stored = stored_of; fee = fee_of }
 
 module _ (v : Seen) (f : Format) (maxOutput k : ℕ) where
   -- (p + b)A within max_output, the fee within 2^64-1 (rules 4.2 d and e)
@@ -68,9 +54,5 @@ module _ (v : Seen) (f : Format) (maxOutput k : ℕ) where
   unfoldable pub plan_checks : List Check
   plan_checks = place_checks v f k ++ area_checks
 
-  abbrev pub planned : Verdict → Planned
-  planned VerdictIs.Fine = PlannedIs.Fine (plan_of v f k)
-  planned (VerdictIs.Refused e) = PlannedIs.Refused e
-
-  abbrev pub plan_is : Planned
-  plan_is = planned (verdict plan_checks)
+  abbrev pub plan_is : Result Plan Refusal
+  plan_is = giving (verdict plan_checks) (plan_of v f k)

@@ -1,27 +1,16 @@
--- A number in the offset's entry goes on to the count; all else refuses with its own number.
-use Rattle.plan.proofs.Planning.{offsets}
+-- The two entries are read in their order, then the range is asked for.
+use Rattle.checks.proofs.Rules.{handed_on}
+use Rattle.plan.proofs.Planning.{offset_refused, count_refused, range_refused, range_fine}
 use Rattle.plan.proofs.locate.Goals as goal
 
-pub value_at-requires : goal.value_at-requires
-value_at-requires c = search offsets
+pub returns-in_err-offset : goal.returns-in_err-offset
+returns-in_err-offset c = handed_on c.from_residual.ensures.1 (offset_refused _ _ _ c.in_err-offset.ensures)
 
-pub enum_told-1 : goal.enum_told-1
-enum_told-1 c = search offsets
+pub returns-in_err-count : goal.returns-in_err-count
+returns-in_err-count c = handed_on c.from_residual-in_err-count.ensures.1 (count_refused _ _ _ c.in_ok-offset.ensures c.in_err-count.ensures)
 
-pub enum_told-in-Missing : goal.enum_told-in-Missing
-enum_told-in-Missing c = search offsets
+pub returns-in_err-need : goal.returns-in_err-need
+returns-in_err-need c = handed_on c.from_residual-in_err-need.ensures.1 (range_refused _ _ _ c.in_ok-offset.ensures c.in_ok-count.ensures c.in_err-need.ensures)
 
-pub enum_known-offset : goal.enum_known-offset
-enum_known-offset c = search offsets
-
-pub locate_count-requires : goal.locate_count-requires
-locate_count-requires c = search offsets
-
-pub returns-in-Outside : goal.returns-in-Outside
-returns-in-Outside c = search offsets
-
-pub returns-in-Missing : goal.returns-in-Missing
-returns-in-Missing c = search offsets
-
-pub returns-in-Number : goal.returns-in-Number
-returns-in-Number c = search offsets
+pub returns : goal.returns
+returns c = range_fine _ _ _ c.in_ok-offset.ensures c.in_ok-count.ensures c.in_ok-need.ensures

@@ -1,39 +1,20 @@
--- The place, the room and the fee are the plan's checks in their order.
-use Rattle.plan.proofs.Planning.{planning}
+-- The stored bytes are found first; then their scratch and their fee are held to the limits.
+use Rattle.checks.proofs.Rules.{handed_on}
+use Rattle.plan.proofs.Planning.{place_refused, room_short, fee_over, fee_fits}
 use Rattle.plan.proofs.plan_segment.Goals as goal
 
-pub locate-requires : goal.locate-requires
-locate-requires c = search planning
+pub returns-in_err-stored : goal.returns-in_err-stored
+returns-in_err-stored c = handed_on c.from_residual.ensures.1 (place_refused _ _ _ _ c.in_err-stored.ensures)
 
-pub enum_known-e : goal.enum_known-e
-enum_known-e c = search planning
+pub returns-then-max_output-scratch_for : goal.returns-then-max_output-scratch_for
+returns-then-max_output-scratch_for c =
+    room_short _ _ _ _ c.in_ok-stored.ensures c.area_of-area.ensures.0 c.scratch_for.ensures.0 c.if-max_output-scratch_for.true
 
-pub enum_known-offset : goal.enum_known-offset
-enum_known-offset c = search planning
+pub returns-in_err-fee : goal.returns-in_err-fee
+returns-in_err-fee c =
+    handed_on c.from_residual-in_err-fee.ensures.1
+    (fee_over _ _ _ _ c.in_ok-stored.ensures c.area_of-area.ensures.0 c.scratch_for.ensures.0 c.if-max_output-scratch_for.false c.fee_of.ensures c.in_err-fee.ensures.value)
 
-pub area_of-area-requires : goal.area_of-area-requires
-area_of-area-requires c = search planning
-
-pub scratch_for-scratch-requires : goal.scratch_for-scratch-requires
-scratch_for-scratch-requires c = search planning
-
-pub returns-then-max_output-scratch : goal.returns-then-max_output-scratch
-returns-then-max_output-scratch c = search planning
-
-pub fee_of-requires : goal.fee_of-requires
-fee_of-requires c = search planning
-
-pub enum_told-1 : goal.enum_told-1
-enum_told-1 c = search planning
-
-pub enum_known-fee : goal.enum_known-fee
-enum_known-fee c = search planning
-
-pub returns-in-Refused : goal.returns-in-Refused
-returns-in-Refused c = search planning
-
-pub returns-in-Over : goal.returns-in-Over
-returns-in-Over c = search planning
-
-pub returns-in-Fits : goal.returns-in-Fits
-returns-in-Fits c = search planning
+pub returns : goal.returns
+returns c =
+    fee_fits _ _ _ _ c.in_ok-stored.ensures c.area_of-area.ensures.0 c.scratch_for.ensures.0 c.if-max_output-scratch_for.false c.fee_of.ensures c.in_ok-fee.ensures.value
