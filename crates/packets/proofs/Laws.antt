@@ -2,23 +2,23 @@
 use Prim.Native.Nat.{ℕ, zero, suc, ◌+◌, ◌-◌, ◌*◌, ◌/◌, ◌%◌, ◌<◌, ◌≤◌}
 use mathlib.Core.Path.{◌≡◌, refl, sym, ap, ◌∙◌}
 use mathlib.Core.List.{List, [], ◌∷◌}
+use mathlib.Core.Logic.{◌⊎◌, ⊎_elim}
 use mathlib.Core.Bool.{Bool, true, false}
 use native.Mathlib.Omega.{arith}
 use native.Mathlib.Nat.{add-sub_cancel_left, mod-lt, div-add-mod', mul-add-mod_self_right, mod-eq_of_lt, suc-mul, zero-mul}
 use native.Mathlib.Numerals.{add-one}
 use lib.ListN.{length, take, drop, get_or, length-drop, drop_of_length-le}
-use lib.Seq.{drop-cons, drop-drop}
+use lib.Seq.{drop-cons, drop-drop, take-length}
 use lib.Dec.{leb, eqb}
 use borrow.Author.Rules.{rules}
-use borrow.Author.Tests.{lt-ltb, le-ltb, eq-eqb, ne_eqb, eqb-true, eqb-false, leb-true}
+use borrow.Author.Tests.{lt-ltb, le-ltb, eq-eqb, ne_eqb, eqb-true, eqb-false}
 use Rattle.lists.specs.Lists.{pick}
-use Rattle.checks.specs.Numbers.{truncated, invalid}
+use Rattle.checks.specs.Numbers.{truncated, invalid, Verdict, no_refusal}
 use Rattle.checks.specs.Checks.{Check, must, verdict, cost}
-use Rattle.checks.specs.declared.Verdict.{Verdict}
-use Rattle.checks.specs.declared.Verdict.TheVariants.{Fine, Refused}
 use Rattle.checks.proofs.Rules.{verdicts}
 use Rattle.packets.specs.Packets.{len_of, payload_of, room_of, packet_checks, range_checks}
-use Rattle.packets.specs.Inner.{PacketIs}
+use Rattle.packets.specs.Inner.{Says}
+use Rattle.std.specs.Prelude.{Err}
 
 -- a literal and a run
 module _ (n : ℕ) where
@@ -37,6 +37,27 @@ module _ (n : ℕ) where
   pub payload_run : 128 ≤ n → payload_of n ≡ 1
   unfolding payload_of
   payload_run h = simp (le-ltb _ _ h)
+
+-- what a control says
+pub says_literal : {byte n : ℕ} → n ≡ byte → n < 128 → Says byte n n n
+says_literal {byte} {n} e h =
+    record {
+      control_is = e;
+      len_is = sym (len_literal n h);
+      payload_is = sym (payload_literal n h);
+      len_small = omega arith;
+      payload_small = omega arith;
+    }
+
+pub says_run : {byte n : ℕ} → n ≡ byte → 128 ≤ n → byte < 256 → Says byte n (n - 126) 1
+says_run {byte} {n} e h b =
+    record {
+      control_is = e;
+      len_is = sym (len_run n h);
+      payload_is = sym (payload_run n h);
+      len_small = omega arith;
+      payload_small = omega arith;
+    }
 
 -- what is left to the boundary
 module _ (stride left : ℕ) where
@@ -134,56 +155,51 @@ pub packets_end : (stride : ℕ) (p : List ℕ) (at left : ℕ) → length p ≤
 unfolding packet_checks
 packets_end stride p at left h = rw (drop_of_length-le p h)
 
--- The loop of the validation: what is known at its head, and what each test says there.
-pub record Scanned (stride : ℕ) (p : List ℕ) (needed at left room : ℕ) : Type 0 where
-  pub inside : at ≤ length p
+-- The loop of the validation: what is known at its head of the rest of the range, and what each test says there.
+pub record Scanned (stride : ℕ) (p : List ℕ) (needed : ℕ) (rest : List ℕ) (left room : ℕ) : Type 0 where
   pub room_is : room ≡ room_of stride left
-  pub same : verdict (packet_checks stride p 0 needed) ≡ verdict (packet_checks stride (drop at p) 0 left)
+  pub same : verdict (packet_checks stride p 0 needed) ≡ verdict (packet_checks stride rest 0 left)
 
-pub scanned_none : (stride : ℕ) (p : List ℕ) (needed room : ℕ) → room ≡ room_of stride needed → Scanned stride p needed 0 needed room
-scanned_none stride p needed room e = record { inside = omega arith; room_is = e; same = refl }
+pub scanned_none : (stride : ℕ) (p : List ℕ) (needed room : ℕ) → room ≡ room_of stride needed → Scanned stride p needed p needed room
+scanned_none stride p needed room e = record { room_is = e; same = refl }
 
-module _ (stride : ℕ) (p : List ℕ) (needed at left room control len payload : ℕ) (s : Scanned stride p needed at left room)
-    (c : PacketIs p at control len payload) (h : at < length p) where
-  len_at : len ≡ len_of (get_or p at 0)
-  len_at = c.len_is ∙ ap len_of c.control_is
-
-  payload_at : payload ≡ payload_of (get_or p at 0)
-  payload_at = c.payload_is ∙ ap payload_of c.control_is
-
+module _ {stride : ℕ} {p : List ℕ} {needed : ℕ} {rest : List ℕ} {byte : ℕ} {after : List ℕ} {left room control len payload : ℕ}
+    (s : Scanned stride p needed rest left room) (e : rest ≡ byte ∷ after) (c : Says byte control len payload) where
   here : verdict (packet_checks stride p 0 needed)
-      ≡ verdict (must (leb payload (length p - at - 1)) truncated ∷ must (leb len left) invalid ∷ must (leb len room) invalid
-      ∷ packet_checks stride (drop (at + 1 + payload) p) 0 (left - len))
-  here = s.same ∙ ap verdict (packets_at stride p at left h) ∙ rw (← len_at, ← payload_at, ← s.room_is)
+      ≡ verdict (must (leb payload (length after)) truncated ∷ must (leb len left) invalid ∷ must (leb len room) invalid
+      ∷ packet_checks stride (drop payload after) 0 (left - len))
+  unfolding packet_checks
+  here =
+      let l : len_of byte ≡ len = sym (c.len_is ∙ ap len_of c.control_is) in
+      let y : payload_of byte ≡ payload = sym (c.payload_is ∙ ap payload_of c.control_is) in
+      s.same ∙ rw (e, l, y, skip_drop stride after payload, ← s.room_is)
 
-  pub short : length p - at - 1 < payload → Refused truncated ≡ verdict (packet_checks stride p 0 needed)
+  pub short : length after < payload → Err truncated ≡ verdict (packet_checks stride p 0 needed)
   short t = (search verdicts) ∙ sym here
 
-  module _ (fits : payload ≤ length p - at - 1) where
-    pub long : left < len → Refused invalid ≡ verdict (packet_checks stride p 0 needed)
-    long t = (search verdicts) ∙ sym here
+  module _ (fits : payload ≤ length after) where
+    pub unfit : (left < len) ⊎ ((len ≤ left) × (room < len)) → Err invalid ≡ verdict (packet_checks stride p 0 needed)
+    unfit t = ⊎_elim (λ (a : left < len). (search verdicts) ∙ sym here) (λ (b : (len ≤ left) × (room < len)). by b.0 b.1) t
+      where
+        by : len ≤ left → room < len → Err invalid ≡ verdict (packet_checks stride p 0 needed)
+        by a b = (search verdicts) ∙ sym here
 
-    module _ (within : len ≤ left) where
-      pub crossing : room < len → Refused invalid ≡ verdict (packet_checks stride p 0 needed)
-      crossing t = (search verdicts) ∙ sym here
-
-      pub scanned_more : len ≤ room → (next : ℕ) → next ≡ room_of stride (left - len) → Scanned stride p needed (at + 1 + payload) (left - len) next
-      scanned_more t next e =
-          record {
-            inside = omega arith;
-            room_is = e;
-            same = here ∙ sym (search verdicts);
-          }
+    pub scanned_more : len ≤ left → len ≤ room → (next : ℕ) → next ≡ room_of stride (left - len)
+        → Scanned stride p needed (take (length after - payload) (drop payload after)) (left - len) next
+    scanned_more a b next n =
+        let all : take (length after - payload) (drop payload after) ≡ drop payload after =
+        ap (λ (m : ℕ). take m (drop payload after)) (sym (length-drop payload after)) ∙ take-length (drop payload after) in
+        rw all (record { room_is = n; same = here ∙ sym (search verdicts) })
 
 -- nothing is left of the range
-module _ (stride : ℕ) (p : List ℕ) (needed at left room : ℕ) (s : Scanned stride p needed at left room) (h : length p ≤ at) where
+module _ {stride : ℕ} {p : List ℕ} {needed : ℕ} {rest : List ℕ} {left room : ℕ} (s : Scanned stride p needed rest left room) (e : length rest ≡ 0) where
   at_end : verdict (packet_checks stride p 0 needed) ≡ verdict (must (eqb left 0) truncated ∷ [])
-  at_end = s.same ∙ ap verdict (packets_end stride p at left h)
+  at_end = s.same ∙ ap verdict (packets_end stride rest 0 left (omega arith))
 
-  pub filled : left ≡ 0 → Fine ≡ verdict (packet_checks stride p 0 needed)
+  pub filled : left ≡ 0 → no_refusal ≡ verdict (packet_checks stride p 0 needed)
   filled t = (search verdicts) ∙ sym at_end
 
-  pub wanting : (left ≡ 0 → ⊥) → Refused truncated ≡ verdict (packet_checks stride p 0 needed)
+  pub wanting : (left ≡ 0 → ⊥) → Err truncated ≡ verdict (packet_checks stride p 0 needed)
   wanting t = (search verdicts) ∙ sym at_end
 
 -- the packets of a range that is inside the file
@@ -194,4 +210,6 @@ range_packets s start count stride needed z a b e =
     let q = rw (add-sub_cancel_left) at e in
     search verdicts
 
-pub ruleset scans = (scanned_none, short, long, crossing, scanned_more, filled, wanting, range_packets, rules)
+pub ruleset rooms = (room_whole, room_part, room_met, room_left, rules)
+
+pub ruleset ranges = (range_packets, verdicts)
