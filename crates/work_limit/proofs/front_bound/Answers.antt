@@ -1,45 +1,16 @@
 -- Each partial result is at most the whole, so the whole is over where one is.
-use Rattle.work_limit.proofs.Bounds.{front_bounds}
+use Rattle.work_limit.proofs.Bounds.{over_in, directories_most, fee_most, walk_most, front_is}
 use Rattle.work_limit.proofs.front_bound.Goals as goal
 
-pub sum-requires : goal.sum-requires
-sum-requires c = search front_bounds
+pub returns-in_err-directories : goal.returns-in_err-directories
+returns-in_err-directories c = over_in _ c.from_residual.ensures c.in_err-directories.ensures (directories_most _ _)
 
-pub enum_known-directories : goal.enum_known-directories
-enum_known-directories c = search front_bounds
+pub returns-in_err-fee : goal.returns-in_err-fee
+returns-in_err-fee c = over_in _ c.from_residual-in_err-fee.ensures c.in_err-fee.ensures (fee_most _ _)
 
-pub enum_told-1 : goal.enum_told-1
-enum_told-1 c = search front_bounds
-
-pub returns-in_default : goal.returns-in_default
-returns-in_default c = search front_bounds
-
-pub sum-requires-2 : goal.sum-requires-2
-sum-requires-2 c = search front_bounds
-
-pub enum_known-fee : goal.enum_known-fee
-enum_known-fee c = search front_bounds
-
-pub enum_told-in_default-sum : goal.enum_told-in_default-sum
-enum_told-in_default-sum c = search front_bounds
-
-pub returns-in_default-sum : goal.returns-in_default-sum
-returns-in_default-sum c = search front_bounds
-
-pub product-requires : goal.product-requires
-product-requires c = search front_bounds
-
-pub enum_known-walk : goal.enum_known-walk
-enum_known-walk c = search front_bounds
-
-pub enum_told-in_default-product : goal.enum_told-in_default-product
-enum_told-in_default-product c = search front_bounds
-
-pub returns-in_default-product : goal.returns-in_default-product
-returns-in_default-product c = search front_bounds
-
-pub sum-requires-3 : goal.sum-requires-3
-sum-requires-3 c = search front_bounds
+pub returns-in_err-product : goal.returns-in_err-product
+returns-in_err-product c =
+    over_in _ c.from_residual-in_err-product.ensures c.in_err-product.ensures (walk_most _ _ c.in_ok-directories.ensures c.in_ok-fee.ensures)
 
 pub returns : goal.returns
-returns c = search front_bounds
+returns c = front_is _ _ c.in_ok-directories.ensures c.in_ok-fee.ensures c.in_ok-product.ensures c.sum-3.ensures

@@ -1,33 +1,13 @@
 -- Twice the output, and that with the input, are at most the whole.
-use Rattle.work_limit.proofs.Bounds.{segment_bounds}
+use native.Mathlib.Omega.{arith}
+use Rattle.work_limit.proofs.Bounds.{over_in, most_most, segment_is}
 use Rattle.work_limit.proofs.segment_bound.Goals as goal
 
-pub product-requires : goal.product-requires
-product-requires c = search segment_bounds
+pub returns-in_err-twice : goal.returns-in_err-twice
+returns-in_err-twice c = over_in _ c.from_residual.ensures c.in_err-twice.ensures (omega arith)
 
-pub enum_known-twice : goal.enum_known-twice
-enum_known-twice c = search segment_bounds
-
-pub enum_told-1 : goal.enum_told-1
-enum_told-1 c = search segment_bounds
-
-pub returns-in_default : goal.returns-in_default
-returns-in_default c = search segment_bounds
-
-pub sum-requires : goal.sum-requires
-sum-requires c = search segment_bounds
-
-pub enum_known-most : goal.enum_known-most
-enum_known-most c = search segment_bounds
-
-pub enum_told-in_default-sum : goal.enum_told-in_default-sum
-enum_told-in_default-sum c = search segment_bounds
-
-pub returns-in_default-sum : goal.returns-in_default-sum
-returns-in_default-sum c = search segment_bounds
-
-pub sum-requires-2 : goal.sum-requires-2
-sum-requires-2 c = search segment_bounds
+pub returns-in_err-sum : goal.returns-in_err-sum
+returns-in_err-sum c = over_in _ c.from_residual-in_err-sum.ensures c.in_err-sum.ensures (most_most _ _ c.in_ok-twice.ensures)
 
 pub returns : goal.returns
-returns c = search segment_bounds
+returns c = segment_is _ _ c.in_ok-twice.ensures c.in_ok-sum.ensures c.sum-2.ensures

@@ -1,24 +1,12 @@
 -- Where there is a segment, one that is over makes the product over.
-use Rattle.work_limit.proofs.Bounds.{segment_bounds}
+use Rattle.checks.proofs.Sizes.{product3_none, product3_over, product3_is}
 use Rattle.work_limit.proofs.segments_bound.Goals as goal
 
 pub returns-then-max_segments-eq0 : goal.returns-then-max_segments-eq0
-returns-then-max_segments-eq0 c = search segment_bounds
+returns-then-max_segments-eq0 c = product3_none _ _ c.if-max_segments-eq0.true
 
-pub segment_bound-requires : goal.segment_bound-requires
-segment_bound-requires c = search segment_bounds
-
-pub enum_known-segment : goal.enum_known-segment
-enum_known-segment c = search segment_bounds
-
-pub enum_told-1 : goal.enum_told-1
-enum_told-1 c = search segment_bounds
-
-pub returns-in_default : goal.returns-in_default
-returns-in_default c = search segment_bounds
-
-pub product-requires : goal.product-requires
-product-requires c = search segment_bounds
+pub returns-in_err-segment_bound : goal.returns-in_err-segment_bound
+returns-in_err-segment_bound c = rw c.from_residual.ensures (product3_over _ _ c.if-max_segments-eq0.false c.in_err-segment_bound.ensures)
 
 pub returns : goal.returns
-returns c = search segment_bounds
+returns c = product3_is _ _ _ c.in_ok-segment_bound.ensures c.product.ensures
