@@ -2,50 +2,55 @@
 use Prim.Native.Nat.{ℕ, zero, suc, ◌+◌, ◌*◌, ◌<◌, ◌≤◌}
 use mathlib.Core.Path.{◌≡◌, refl, sym, ap, ◌∙◌}
 use mathlib.Core.List.{List, [], ◌∷◌, map}
-use mathlib.Core.Bool.{Bool, true, false, not, ◌&&◌, ◌||◌, and-false}
+use mathlib.Core.Bool.{Bool, cond, true, false, not, ◌&&◌, ◌||◌, and-false}
 use native.Mathlib.Omega.{arith}
 use native.Mathlib.Numerals.{add-one}
 use native.Mathlib.Nat.{le_antisymm}
-use lib.ListN.{length, get_or, set, drop, drop_of_length-le}
-use lib.Seq.{drop-cons}
+use lib.ListN.{length, get_or, set}
 use lib.Dec.{ltb, eqb}
-use borrow.Author.Rules.{rules}
-use borrow.Author.Tests.{lt-ltb, le-ltb, eq-eqb, ne_eqb, eqb-true, eqb-false, ltb-true, ltb-false, not-true, not-false}
+use borrow.Author.Tests.{lt-ltb, le-ltb, eq-eqb, ne_eqb, eqb-true, eqb-false, ltb-true, ltb-false}
 use Rattle.lists.specs.Lists.{pick}
 use Rattle.seen.specs.Seen.{Seen, There}
 use Rattle.seen.proofs.Blocks.{true_false}
 use Rattle.seen.proofs.Words.{there_part}
 use Rattle.tags.specs.Slots.{known, entry_in, absent}
 use Rattle.tags.specs.Tags.{index_in, slot_of, none, tag_at, type_at, entry_of, fresh, tags_fine, slots_in}
-use Rattle.tags.specs.Inner.{free, entered, EntryIs, TagsAre, EntryThere, SlotsThere}
+use Rattle.tags.specs.Inner.{slot_if_known, free, entered, entered_in, tags_of, EntryThere, SlotsThere}
+use Rattle.std.specs.Prelude.{Some, None}
+use Rattle.std.specs.List.{position, position_or_len}
+use Rattle.std.proofs.lemmas.List.Recursion.{is_position_or_len}
 
--- a search in a list: not among the first i
-pub record Passing (xs : List ℕ) (t i : ℕ) : Type 0 where
-  pub within : i ≤ length xs
-  pub same : index_in xs t ≡ i + index_in (drop i xs) t
+-- the first place of a number, in the library's words
+place_is : (t : ℕ) (xs : List ℕ) → index_in xs t ≡ position_or_len (λ x. eqb x t) xs
+unfolding index_in
+place_is t = is_position_or_len (λ (xs : List ℕ). index_in xs t) (λ x. eqb x t) refl (λ x xs. by (index_in xs t) (eqb x t))
+  where
+    by : (n : ℕ) (b : Bool) → pick b 0 (suc n) ≡ cond b 0 (1 + n)
+    by n true = refl
+    by n false = omega arith
 
-pub from_first : (xs : List ℕ) (t : ℕ) → Passing xs t 0
-from_first xs t = record { within = omega arith; same = omega arith }
+pub slot_found : (t : ℕ) → position (λ x. eqb x t) known ≡ slot_if_known t
+unfolding known
+slot_found t = rw (place_is t known) (by (ltb (position_or_len (λ x. eqb x t) known) 19))
+  where
+    by : (b : Bool) → cond b (Some (position_or_len (λ x. eqb x t) known)) None ≡ pick b (Some (position_or_len (λ x. eqb x t) known)) None
+    by true = refl
+    by false = refl
 
-module _ (xs : List ℕ) (t i : ℕ) (p : Passing xs t i) where
-  module _ (h : i < length xs) where
-    here : index_in (drop i xs) t ≡ pick (eqb (get_or xs i 0) t) 0 (suc (index_in (drop (i + 1) xs) t))
-    unfolding index_in
-    here = rw (add-one i, drop-cons xs i 0 h)
+-- a slot that is known has its place among the nineteen
+known_place : {k : ℕ} (t : ℕ) → Some k ≡ slot_if_known t → (k ≡ slot_of t) × (k < 19)
+known_place {k} t q = by (ltb (slot_of t) 19) refl q
+  where
+    by : (b : Bool) → ltb (slot_of t) 19 ≡ b → Some k ≡ pick b (Some (slot_of t)) None → (k ≡ slot_of t) × (k < 19)
+    by true e q = let z : k ≡ slot_of t = cc in (z, omega (arith, z, ltb-true (slot_of t) 19 e))
+    by false e q = absurd cc
 
-    pub found_there : get_or xs i 0 ≡ t → i ≡ index_in xs t
-    found_there e = let x : index_in (drop i xs) t ≡ 0 = here ∙ simp (eq-eqb _ _ e) in omega (arith, p.same)
-
-    pub passed_by : (get_or xs i 0 ≡ t → ⊥) → Passing xs t (i + 1)
-    passed_by e =
-        let x : index_in (drop i xs) t ≡ suc (index_in (drop (i + 1) xs) t) = here ∙ simp (ne_eqb _ _ e) in
-        record { within = omega arith; same = omega (arith, p.same) }
-
-  pub none_left : length xs ≤ i → i ≡ index_in xs t
-  unfolding index_in
-  none_left h = let x : index_in (drop i xs) t ≡ 0 = rw (drop_of_length-le xs h) in omega (arith, p.same)
-
-pub ruleset slots = (from_first, found_there, passed_by, none_left, rules)
+unknown_place : (t : ℕ) → None ≡ slot_if_known t → 19 ≤ slot_of t
+unknown_place t q = by (ltb (slot_of t) 19) refl q
+  where
+    by : (b : Bool) → ltb (slot_of t) 19 ≡ b → None ≡ pick b (Some (slot_of t)) None → 19 ≤ slot_of t
+    by true e q = absurd cc
+    by false e q = ltb-false (slot_of t) 19 e
 
 -- one entry
 pub tag_there : (v : Seen) (e : ℕ) → There v e 12 → There v e 2
@@ -54,29 +59,28 @@ tag_there v e t = there_part v e 12 e 2 t (omega arith) (omega arith)
 pub type_there : (v : Seen) (e : ℕ) → There v e 12 → There v (e + 2) 2
 type_there v e t = there_part v e 12 (e + 2) 2 t (omega arith) (omega arith)
 
-module _ (v : Seen) (big : Bool) (e : ℕ) (slots : List ℕ) (tag k : ℕ) (eg : tag ≡ tag_at v big e) (eq : k ≡ slot_of tag) where
-  ek : k ≡ slot_of (tag_at v big e)
-  ek = eq ∙ ap slot_of eg
+pub slot_within : {k : ℕ} (t : ℕ) → Some k ≡ slot_if_known t → k < 19
+slot_within t q = (known_place t q).1
 
-  pub passed_over : 19 ≤ k → EntryIs v big e slots true slots
+module _ (v : Seen) (big : Bool) (e : ℕ) (slots : List ℕ) {tag : ℕ} (eg : tag ≡ tag_at v big e) where
+  pub passed_over : None ≡ slot_if_known tag → Some slots ≡ entered_in v big e slots
   unfolding free entered
-  passed_over h = record { good_is = rw (← ek) (simp (le-ltb _ _ h)); slots_are = rw (← ek) (simp (le-ltb _ _ h)) }
+  passed_over q = rw (← eg) (simp (le-ltb _ _ (unknown_place tag q)))
 
-  module _ (h : k < 19) (ty : ℕ) (et : ty ≡ type_at v big e) where
-    pub no_type : ty ≡ 0 → EntryIs v big e slots false slots
+  module _ {k : ℕ} (q : Some k ≡ slot_if_known tag) {type : ℕ} (et : type ≡ type_at v big e) where
+    pub no_type : type ≡ 0 → None ≡ entered_in v big e slots
     unfolding free
-    no_type z = record { good_is = rw (← ek, ← et) (simp (lt-ltb _ _ h, eq-eqb _ _ z)); slots_are = refl }
+    no_type z = let (p, l) = known_place tag q in rw (← eg, ← et, ← p) (simp (lt-ltb _ _ l, eq-eqb _ _ z))
 
-    module _ (nz : ty ≡ 0 → ⊥) where
-      pub taken : (get_or slots k 0 ≡ 0 → ⊥) → EntryIs v big e slots false slots
-      unfolding free
-      taken z = record { good_is = rw (← ek, ← et) (simp (lt-ltb _ _ h, ne_eqb _ _ nz, ne_eqb _ _ z)); slots_are = refl }
+    pub taken : (type ≡ 0 → ⊥) → (get_or slots k 0 ≡ 0 → ⊥) → None ≡ entered_in v big e slots
+    unfolding free
+    taken nz z = let (p, l) = known_place tag q in rw (← eg, ← et, ← p) (simp (lt-ltb _ _ l, ne_eqb _ _ nz, ne_eqb _ _ z))
 
-      pub slot_set : get_or slots k 0 ≡ 0 → EntryIs v big e slots true (set slots k e)
-      unfolding free entered
-      slot_set z = record { good_is = rw (← ek, ← et) (simp (lt-ltb _ _ h, ne_eqb _ _ nz, eq-eqb _ _ z)); slots_are = rw (← ek) (simp (lt-ltb _ _ h)) }
+    pub slot_set : (type ≡ 0 → ⊥) → get_or slots k 0 ≡ 0 → Some (set slots k e) ≡ entered_in v big e slots
+    unfolding free entered
+    slot_set nz z = let (p, l) = known_place tag q in rw (← eg, ← et, ← p) (simp (lt-ltb _ _ l, ne_eqb _ _ nz, eq-eqb _ _ z))
 
-pub ruleset entries = (tag_there, type_there, passed_over, no_type, taken, slot_set, rules)
+pub ruleset entries = (slot_within, passed_over, no_type, taken, slot_set)
 
 -- an entry that is not absent is there
 pub entry_is_there : (v : Seen) (e : ℕ) → EntryThere v e → (e ≡ 0 → ⊥) → There v e 12
@@ -211,39 +215,37 @@ tags_bad v big first (suc n) i h f = by (eqb i n) refl (λ l. tags_bad v big fir
     by false q k = rw (k (omega (arith, eqb-false i n q)))
 
 -- the loop over entries
-pub record Tagging (v : Seen) (big : Bool) (first n e i : ℕ) (slots : List ℕ) : Type 0 where
-  pub within : i ≤ n
-  pub stands : e ≡ first + 12 * i
+pub record Tagging (v : Seen) (big : Bool) (first i : ℕ) (slots : List ℕ) : Type 0 where
   pub fine_so_far : tags_fine v big first i ≡ true
   pub slots_are : slots ≡ slots_in v big first i
 
-pub tagging_none : (v : Seen) (big : Bool) (first n : ℕ) → Tagging v big first n first 0 none
+pub tagging_none : (v : Seen) (big : Bool) (first : ℕ) → Tagging v big first 0 none
 unfolding tags_fine slots_in entry_of known
-tagging_none v big first n = record { within = omega arith; stands = omega arith; fine_so_far = refl; slots_are = refl }
+tagging_none v big first = record { fine_so_far = refl; slots_are = refl }
 
-pub entry_there : (v : Seen) (first n e i : ℕ) → There v first (12 * n) → e ≡ first + 12 * i → i < n → There v e 12
-entry_there v first n e i t q h = there_part v first (12 * n) e 12 t (omega arith) (omega arith)
+pub entry_there : (v : Seen) (first n i : ℕ) → There v first (12 * n) → i < n → There v (first + 12 * i) 12
+entry_there v first n i t h = there_part v first (12 * n) (first + 12 * i) 12 t (omega arith) (omega arith)
 
-module _ (v : Seen) (big : Bool) (first n e i : ℕ) (slots : List ℕ) (g : Tagging v big first n e i slots) where
-  module _ (good : Bool) (more : List ℕ) (st : EntryIs v big e slots good more) (h : i < n) where
-    good_fresh : good ≡ fresh v big first i
-    good_fresh = st.good_is ∙ rw (g.stands, g.slots_are) (free_is v big first i)
+module _ (v : Seen) (big : Bool) (first n i : ℕ) (slots : List ℕ) (g : Tagging v big first i slots) where
+  entering : entered_in v big (first + 12 * i) slots ≡ pick (fresh v big first i) (Some (slots_in v big first (i + 1))) None
+  entering = rw (g.slots_are, free_is v big first i, entered_is v big first i)
 
-    pub tag_refused : good ≡ false → TagsAre v big first n false none
-    tag_refused f = record { good_is = sym (tags_bad v big first n i h (sym good_fresh ∙ f)); slots_are = refl }
+  pub tag_refused : i < n → None ≡ entered_in v big (first + 12 * i) slots → None ≡ tags_of v big first n
+  tag_refused h q = by (fresh v big first i) refl (q ∙ entering)
+    where
+      by : (b : Bool) → fresh v big first i ≡ b → None ≡ pick b (Some (slots_in v big first (i + 1))) None → None ≡ tags_of v big first n
+      by true e q = absurd cc
+      by false e q = rw (tags_bad v big first n i h e)
 
-    pub tagging_more : good ≡ true → Tagging v big first n (e + 12) (i + 1) more
-    unfolding tags_fine
-    tagging_more f = record {
-      within = omega arith;
-      stands = omega (arith, g.stands);
-      fine_so_far = rw (add-one i, g.fine_so_far) (sym good_fresh ∙ f);
-      slots_are = st.slots_are ∙ rw (f, g.stands, g.slots_are) (entered_is v big first i);
-    }
+  pub tagging_more : {more : List ℕ} → Some more ≡ entered_in v big (first + 12 * i) slots → Tagging v big first (i + 1) more
+  unfolding tags_fine
+  tagging_more {more} q = by (fresh v big first i) refl (q ∙ entering)
+    where
+      by : (b : Bool) → fresh v big first i ≡ b → Some more ≡ pick b (Some (slots_in v big first (i + 1))) None → Tagging v big first (i + 1) more
+      by true e q = record { fine_so_far = rw (add-one i, g.fine_so_far) e; slots_are = cc }
+      by false e q = absurd cc
 
-  pub tagging_all : n ≤ i → TagsAre v big first n true slots
-  tagging_all h =
-      let z : i ≡ n = omega (arith, g.within) in
-      record { good_is = rw (← z) (sym g.fine_so_far); slots_are = rw (← z) g.slots_are }
+  pub tagging_all : i ≡ n → Some slots ≡ tags_of v big first n
+  tagging_all z = rw (← z, g.fine_so_far) (ap Some g.slots_are)
 
-pub ruleset taggings = (tagging_none, entry_there, tag_refused, tagging_more, tagging_all, not-true, not-false, rules)
+pub ruleset taggings = (tag_refused, tagging_more, tagging_all)

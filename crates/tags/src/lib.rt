@@ -1,10 +1,9 @@
 // The slots by name, and the entries of a directory by slot: each known tag at most once and with a type.
 #![tactic(auto)]
 
-ghost use Rattle.std.specs.Prelude.{◌≡◌, ◌+◌, ◌*◌, ◌≤◌};
+ghost use Rattle.std.specs.Prelude.{◌≡◌, ◌*◌};
 ghost use Rattle.seen.specs.Seen.{seen, There};
-ghost use Rattle.tags.specs.Tags.{slot_of};
-ghost use Rattle.tags.specs.Inner.{EntryIs, TagsAre};
+ghost use Rattle.tags.specs.Inner.{slot_if_known, entered_in, tags_of};
 
 // The slots by their TIFF names.
 pub const IMAGE_WIDTH: usize = 0;
@@ -50,81 +49,43 @@ const TAGS: [usize; 19] = [
     256, 257, 258, 259, 262, 266, 273, 274, 277, 278, 279, 284, 317, 322, 323, 324, 325, 338, 339,
 ];
 
-// The place of the entry of each slot, 0 for a slot whose tag is absent: no entry lies at 0.
-#[derive(Clone, Copy)]
-pub struct Tags {
-    pub good: bool,
-    pub slots: [usize; 19],
-}
-
-// The slot of a tag, or 19 for a tag that is not known.
-fn slot_of(tag: usize) -> usize
-    ensures { (result ≡ slot_of tag) × (result ≤ 19) }
+// The slot of a tag that is known.
+fn slot_of(tag: usize) -> Option<usize>
+    ensures { result ≡ slot_if_known tag }
 {
-    let mut i: usize = 0;
-    while i < 19 {
-        if TAGS[i] == tag {
-            return i;
-        }
-        i += 1;
-    }
-    i
+    TAGS.iter().position(|known| *known == tag)
 }
 
-// One entry: its place goes into its slot, unless that is taken or the type is 0.
-fn enter(file: &[u8], map: &[u8], big: bool, entry: usize, slots: [usize; 19]) -> Tags
+// The slots with one entry more: its place goes into its slot, unless that is taken or the type is 0.
+#[tactic(auto, using(crate::proofs::Entries::entries))]
+fn enter(
+    file: &[u8],
+    map: &[u8],
+    big: bool,
+    entry: usize,
+    mut slots: [usize; 19],
+) -> Option<[usize; 19]>
     requires { There (seen file.now map.now) entry 12 }
-    ensures { EntryIs (seen file.now map.now) big entry slots result.good result.slots }
+    ensures { result ≡ entered_in (seen file.now map.now) big entry slots }
 {
-    let k = slot_of(words::word2(file, map, big, entry));
-    if k < 19 {
-        if words::word2(file, map, big, entry + 2) == 0 {
-            return Tags {
-                good: false,
-                slots: slots,
-            };
+    if let Some(slot) = slot_of(words::word2(file, map, big, entry)) {
+        if words::word2(file, map, big, entry + 2) == 0 || slots[slot] != 0 {
+            return None;
         }
-        if slots[k] != 0 {
-            return Tags {
-                good: false,
-                slots: slots,
-            };
-        }
-        let mut more = slots;
-        more[k] = entry;
-        return Tags {
-            good: true,
-            slots: more,
-        };
+        slots[slot] = entry;
     }
-    Tags {
-        good: true,
-        slots: slots,
-    }
+    Some(slots)
 }
 
-// All entries, in their order.
-pub fn read_tags(file: &[u8], map: &[u8], big: bool, first: usize, n: usize) -> Tags
+// The place of the entry of each slot, 0 for a slot whose tag is absent: no entry lies at 0. None where an entry may not stand.
+#[tactic(auto, using(crate::proofs::Entries::taggings))]
+pub fn read_tags(file: &[u8], map: &[u8], big: bool, first: usize, n: usize) -> Option<[usize; 19]>
     requires { There (seen file.now map.now) first (12 * n) }
-    ensures { TagsAre (seen file.now map.now) big first n result.good result.slots }
+    ensures { result ≡ tags_of (seen file.now map.now) big first n }
 {
     let mut slots = [0usize; 19];
-    let mut entry = first;
-    let mut i: usize = 0;
-    while i < n {
-        let t = enter(file, map, big, entry, slots);
-        if !t.good {
-            return Tags {
-                good: false,
-                slots: [0usize; 19],
-            };
-        }
-        slots = t.slots;
-        entry += 12;
-        i += 1;
+    for i in 0..n {
+        slots = enter(file, map, big, first + 12 * i, slots)?;
     }
-    Tags {
-        good: true,
-        slots: slots,
-    }
+    Some(slots)
 }

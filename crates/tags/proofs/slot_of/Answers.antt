@@ -1,30 +1,16 @@
--- The tag is not among those before place i.
-use Rattle.tags.specs.Slots.{known}
-use Rattle.tags.proofs.Entries.{slots, found_there, passed_by, none_left}
-use native.Mathlib.Omega.{arith}
+-- The first place of a tag in the table.
+use mathlib.Core.Path.{◌∙◌}
 use borrow.Author.Rules.{rules}
+use borrow.Author.Tests.{tests}
+use lib.Dec.{eqb}
+use Rattle.std.proofs.lemmas.Iterator.{YieldsList-from_slice}
+use Rattle.std.proofs.lemmas.Iterator.Search.{position_from_yields_List}
+use Rattle.tags.specs.Slots.{known}
+use Rattle.tags.proofs.Entries.{slot_found}
 use Rattle.tags.proofs.slot_of.Goals as goal
-
-pub loop-i-init : goal.loop-i-init
-loop-i-init c = search slots
-
-pub offset_bounds-i : goal.offset_bounds-i
-offset_bounds-i c = search slots
-
-pub returns-then-i-tag : goal.returns-then-i-tag
-unfolding known
-returns-then-i-tag c = (found_there known _ _ (search rules) (omega arith) c.if-i-tag.true, omega arith)
-
-pub overflow_add-i : goal.overflow_add-i
-overflow_add-i c = search slots
-
-pub loop-i-smaller : goal.loop-i-smaller
-loop-i-smaller c = search slots
-
-pub loop-i-preserved : goal.loop-i-preserved
-unfolding known
-loop-i-preserved c = passed_by known _ _ (search rules) (omega arith) c.if-i-tag.false
 
 pub returns : goal.returns
 unfolding known
-returns c = (none_left known _ _ (search rules) (omega arith), omega arith)
+returns c =
+    position_from_yields_List (λ x. eqb x c.args.tag) _ _ _ c.position.ensures.ran (YieldsList-from_slice known cc) (λ x b q k. search (rules, tests))
+    ∙ slot_found c.args.tag
