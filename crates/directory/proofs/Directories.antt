@@ -1,157 +1,143 @@
 -- One directory: each return against the list of checks.
-use Prim.Native.Nat.{ℕ, ◌+◌, ◌-◌, ◌*◌, ◌<◌, ◌≤◌}
-use mathlib.Core.Path.{◌≡◌, refl, sym, ◌∙◌}
-use mathlib.Core.List.{List, [], ◌∷◌, ◌++◌}
+use Prim.Native.Nat.{ℕ, ◌+◌, ◌*◌, ◌≤◌}
+use mathlib.Core.Path.{◌≡◌, refl, sym, ap, ◌∙◌}
+use mathlib.Core.List.{List, [], ◌∷◌, ◌++◌, append_assoc}
 use mathlib.Core.Bool.{Bool, true, false}
 use native.Mathlib.Omega.{arith}
-use lib.Dec.{ltb, leb}
-use borrow.Author.Rules.{rules}
-use borrow.Author.Tests.{not-true, not-false}
+use Rattle.std.specs.Prelude.{Result, Ok, Err, Some, None, MatchResult}
 use Rattle.lists.specs.Lists.{pick}
-use Rattle.checks.specs.Numbers.{invalid, limit}
-use Rattle.checks.specs.Checks.{Check, must, pay, run, verdict, cost, on_pass}
-use Rattle.checks.specs.declared.Told.{Told}
-use Rattle.checks.specs.declared.Told.TheVariants.{Refused, Passed}
-use Rattle.checks.specs.declared.Verdict.{Verdict}
-use Rattle.checks.specs.declared.Verdict.TheVariants as VerdictIs
-use Rattle.checks.proofs.Exact.{accepted, fine, holds_then, run_fine, run_refused}
-use Rattle.checks.proofs.Rules.{ended, onward, ended_free, onward_free, refused_there, fine_so_far, refuse, allow, all_fine, tests}
+use Rattle.checks.specs.Numbers.{Told, invalid, leaving}
+use Rattle.checks.specs.Checks.{Check, must, pay, run, verdict, cost, giving_left}
+use Rattle.checks.specs.declared.Refusal.{Refusal}
+use Rattle.checks.specs.declared.Refused.{Refused}
+use Rattle.checks.proofs.Exact.{fine, holds_then, then, stops, run_fine, run_refused, verdict_then, verdict_stops}
+use Rattle.checks.proofs.Rules.{tests_refused, tests_passed}
 use Rattle.seen.specs.Seen.{Seen, there, There, four}
-use Rattle.seen.proofs.Words.{there_part, there_of, holds_there}
-use Rattle.tags.specs.Tags.{none}
-use Rattle.directory.specs.Directory.{entries_at, slots_at, next_at, count_checks, body_checks, directory_fee_checks, tag_checks, directory_checks, Gives}
-use Rattle.tags.specs.Inner.{TagsAre}
-use Rattle.directory.specs.Inner.{Body, refused_directory}
+use Rattle.seen.proofs.Words.{there_part, holds_there}
+use Rattle.tags.specs.Tags.{tags_fine, slots_in}
+use Rattle.tags.specs.Inner.{tags_of}
+use Rattle.directory.specs.Directory.{entries_at, count_checks, body_checks, directory_fee_checks, tag_checks, directory_checks, directory_at, given, Gives}
+use Rattle.directory.specs.Inner.{number_checks, counted}
 use Rattle.directory.specs.declared.Directory.{Directory}
 
+-- a call whose refusals are handed on with the units left: what it gave, or its refusal
+pub passed_on : {X : Type 0} {s : Result X Refusal} {x : X} → MatchResult s (λ y. ◌≡◌ {A = Result X Refused} (Ok x) (Ok y)) (λ e. ⊥) → Ok x ≡ s
+passed_on {s = Ok y} m = ap Ok cc
+passed_on {s = Err e} m = absurd m
+
+pub refused_on : {X : Type 0} {P : Refusal → Type 0} {s : Result X Refusal} {r : Refused} (left : ℕ) → ((e : Refusal) → P e → r ≡ leaving e left)
+    → MatchResult s (λ y. ◌≡◌ {A = Result X Refused} (Err r) (Ok y)) P → (e : Refusal) × (Err e ≡ s) × (r ≡ leaving e left)
+refused_on {s = Ok y} left f m = absurd cc
+refused_on {s = Err e} left f m = (e, refl, f e m)
+
 -- the number of entries
-module _ (v : Seen) (big : Bool) (maxTags at : ℕ) {r : Verdict} (er : r ≡ verdict (there v at 2)) where
-  pub count_refused : {e : ℕ} → r ≡ VerdictIs.Refused e → VerdictIs.Refused e ≡ verdict (count_checks v big maxTags at)
-  unfolding count_checks
-  count_refused {e} q = refused_there (there v at 2) _ e er q
+module _ (v : Seen) (big : Bool) (maxTags at : ℕ) where
+  stopped : (e : Refusal) → verdict (count_checks v big maxTags at) ≡ Err e → Err e ≡ counted v big maxTags at
+  stopped e z = rw (verdict_stops (count_checks v big maxTags at) (body_checks v big at) e z)
 
-  module _ {n : ℕ} (q : r ≡ VerdictIs.Fine) (en : n ≡ entries_at v big at) where
-    counting : {t : Verdict} → t ≡ verdict (must (ltb 0 n) invalid ∷ must (leb n maxTags) limit ∷ []) → t ≡ verdict (count_checks v big maxTags at)
+  pub count_cut : {e : Refusal} → Err e ≡ verdict (there v at 2) → Err e ≡ counted v big maxTags at
+  unfolding count_checks
+  count_cut {e} q = stopped e (verdict_stops (there v at 2) _ e (sym q))
+
+  module _ {y : Unit {0}} {n : ℕ} (q : Ok y ≡ verdict (there v at 2)) (en : n ≡ entries_at v big at) where
+    to_number : verdict (count_checks v big maxTags at) ≡ verdict (number_checks n maxTags)
     unfolding count_checks
-    counting e = fine_so_far (there v at 2) _ er q (rw en at e)
+    to_number = verdict_then (there v at 2) _ (sym q) ∙ rw en refl
 
-    pub none_there : n ≡ 0 → VerdictIs.Refused invalid ≡ verdict (count_checks v big maxTags at)
-    none_there z = counting (search (refuse, tests))
+    pub number_refused : {e : Refusal} → Err e ≡ verdict (number_checks n maxTags) → Err e ≡ counted v big maxTags at
+    number_refused {e} b = stopped e (to_number ∙ sym b)
 
-    module _ (nz : n ≡ 0 → ⊥) where
-      pub too_many : maxTags < n → VerdictIs.Refused limit ≡ verdict (count_checks v big maxTags at)
-      too_many l = counting (search (refuse, allow, tests))
+    module _ {z : Unit {0}} (fine : Ok z ≡ verdict (number_checks n maxTags)) where
+      to_body : verdict (count_checks v big maxTags at ++ body_checks v big at) ≡ verdict (there v (at + 2) (12 * n + 4))
+      to_body = verdict_then (count_checks v big maxTags at) (body_checks v big at) (to_number ∙ sym fine) ∙ rw en refl
 
-      pub counted : n ≤ maxTags → VerdictIs.Fine ≡ verdict (count_checks v big maxTags at)
-      counted l = counting (search (allow, all_fine, tests))
+      pub body_cut : {e : Refusal} → Err e ≡ verdict (there v (at + 2) (12 * n + 4)) → Err e ≡ counted v big maxTags at
+      body_cut {e} b = rw (to_body, ← b)
 
-pub ruleset counts = (there_of, count_refused, none_there, too_many, counted, rules)
+      pub counted_there : {t : Unit {0}} → Ok t ≡ verdict (there v (at + 2) (12 * n + 4)) → Ok n ≡ counted v big maxTags at
+      counted_there b = rw (to_body, ← b) (ap Ok en)
 
--- a refusal gives nothing else
-pub gives_refused : (v : Seen) (big : Bool) (cs : List Check) (at left e u : ℕ) (d : Directory) → Refused e u ≡ run cs left → d ≡ refused_directory e u
-    → Gives v big cs at left d
-gives_refused v big cs at left e u d q z = rw z (record { told_is = q; entries_are = refl; slots_are = refl; next_is = refl })
-
--- the bytes of the body, and the charge, by the count that was read
-module _ (v : Seen) (big : Bool) (at n left : ℕ) (en : n ≡ entries_at v big at) where
-  module _ {r : Verdict} (er : r ≡ verdict (there v (at + 2) (12 * n + 4))) where
-    pub body_needed : r ≡ VerdictIs.Fine → Passed left ≡ run (body_checks v big at) left
-    unfolding cost
-    body_needed q = sym (run_fine (body_checks v big at) left refl (rw (← en) (sym er ∙ q)))
-
-    pub body_refused : (e : ℕ) → r ≡ VerdictIs.Refused e → Refused e left ≡ run (body_checks v big at) left
-    unfolding cost
-    body_refused e q = sym (run_refused (body_checks v big at) left e refl (rw (← en) (sym er ∙ q)))
-
-  pub charged : {t : Told} → t ≡ run (pay (n + 1) ∷ []) left → t ≡ run (directory_fee_checks v big at) left
-  charged e = rw en at e
-
-pub ruleset charges = (body_needed, body_refused, charged, rules)
-
--- the tags, and the next offset behind them
-module _ (v : Seen) (big : Bool) (at n : ℕ) (b : Body v big at) (en : n ≡ entries_at v big at) where
-  pub tags_there : There v (at + 2) (12 * n)
-  tags_there = there_part v (at + 2) (12 * entries_at v big at + 4) (at + 2) (12 * n) b.body (omega arith) (omega arith)
-
-  pub next_there : There v (at + 2 + 12 * n) 4
-  next_there = there_part v (at + 2) (12 * entries_at v big at + 4) (at + 2 + 12 * n) 4 b.body (omega arith) (omega arith)
-
-  module _ (left : ℕ) (good : Bool) (slots : List ℕ) (g : TagsAre v big (at + 2) n good slots) where
-    checked : run (tag_checks v big at) left ≡ pick good (Passed left) (Refused invalid left)
-    unfolding run
-    checked = rw (← en, ← g.good_is)
-
-    pub body_bad : (d : Directory) → good ≡ false → d ≡ refused_directory invalid left → Gives v big (tag_checks v big at) at left d
-    body_bad d f z = gives_refused v big (tag_checks v big at) at left invalid left d (sym (checked ∙ rw f)) z
-
-    pub body_read : (next : ℕ) → good ≡ true → next ≡ four big v (at + 2 + 12 * n)
-        → Gives v big (tag_checks v big at) at left (record { told = Passed left; entries = n; slots = slots; next = next })
-    body_read next f e = record { told_is = sym (checked ∙ rw f); entries_are = en; slots_are = g.slots_are ∙ rw (f, en); next_is = e ∙ rw en }
-
-pub count_of : (v : Seen) (big : Bool) (at : ℕ) → Body v big at → There v at 2
-count_of v big at b = b.count
-
-pub ruleset bodies = (count_of, tags_there, next_there, body_bad, body_read, not-true, not-false, rules)
-
--- one directory: count, body, charge, tags
-count_free : (v : Seen) (big : Bool) (maxTags at : ℕ) → cost (count_checks v big maxTags at) ≡ 0
+free : (v : Seen) (big : Bool) (maxTags at : ℕ) → cost (count_checks v big maxTags at ++ body_checks v big at) ≡ 0
 unfolding cost count_checks
-count_free v big maxTags at = refl
+free v big maxTags at = refl
 
-module _ (v : Seen) (big : Bool) (maxTags at : ℕ) {r : Verdict} (er : r ≡ verdict (count_checks v big maxTags at)) where
-  pub count_there : r ≡ VerdictIs.Fine → There v at 2
-  unfolding count_checks
-  count_there q = holds_there v at 2 (holds_then (there v at 2) _ ((fine (count_checks v big maxTags at)).0 (sym er ∙ q))).0
+-- one directory, check by check
+module _ (v : Seen) (big : Bool) (maxTags at left : ℕ) where
+  abbrev counting_checks : List Check
+  counting_checks = count_checks v big maxTags at ++ body_checks v big at
 
-  module _ (left : ℕ) where
-    pub directory_uncounted : (e : ℕ) (d : Directory) → r ≡ VerdictIs.Refused e → d ≡ refused_directory e left
-        → Gives v big (directory_checks v big maxTags at) at left d
-    unfolding directory_checks
-    directory_uncounted e d q z =
-        gives_refused v big _ at left e left d (ended_free (count_checks v big maxTags at) _ left e (count_free v big maxTags at) er q) z
+  abbrev answer : Result Directory Refused
+  answer = given v big (directory_checks v big maxTags at) at left
 
-    module _ (q : r ≡ VerdictIs.Fine) {s : Told} (es : s ≡ run (body_checks v big at) left) where
-      counted_on : {t : Told} → t ≡ run (body_checks v big at ++ (directory_fee_checks v big at ++ tag_checks v big at)) left
-          → t ≡ run (directory_checks v big maxTags at) left
-      unfolding directory_checks
-      counted_on e = onward_free (count_checks v big maxTags at) _ left (count_free v big maxTags at) er q e
+  -- the checks in the order of the code: those that charge nothing, the charge, the tags
+  in_order : directory_checks v big maxTags at ≡ counting_checks ++ (directory_fee_checks v big at ++ tag_checks v big at)
+  unfolding directory_checks
+  in_order = sym (append_assoc (count_checks v big maxTags at) (body_checks v big at) _)
 
-      pub directory_bodyless : (e u : ℕ) (d : Directory) → s ≡ Refused e u → d ≡ refused_directory e u → Gives v big (directory_checks v big maxTags at) at left d
-      directory_bodyless e u d p z = gives_refused v big _ at left e u d (counted_on (ended (body_checks v big at) _ left e u es p)) z
+  by_checks : {t : Told} → run (directory_checks v big maxTags at) left ≡ t → answer ≡ giving_left t (directory_at v big at)
+  by_checks q = ap (λ t. giving_left t (directory_at v big at)) q
 
-      module _ (u : ℕ) (p : s ≡ Passed u) where
-        pub body_there : Body v big at
-        body_there = record {
-          count = count_there q;
-          body = holds_there v (at + 2) (12 * entries_at v big at + 4) ((accepted (body_checks v big at) left u).0 (sym es ∙ p)).holds;
-        }
+  pub directory_uncounted : {e : Refusal} {r : Refused} → Err e ≡ counted v big maxTags at → r ≡ leaving e left → Err r ≡ answer
+  directory_uncounted {e} {r} q z =
+      rw (by_checks (ap (λ cs. run cs left) in_order ∙ stops counting_checks _ left (leaving e left) (run_refused _ left e (free v big maxTags at) (tests_refused _ _ e q))), z)
 
-        module _ {w : Told} (ew : w ≡ run (directory_fee_checks v big at) u) where
-          body_on : {t : Told} → t ≡ run (directory_fee_checks v big at ++ tag_checks v big at) u → t ≡ run (directory_checks v big maxTags at) left
-          body_on e = counted_on (onward (body_checks v big at) _ left u es p e)
+  module _ {n : ℕ} (qc : Ok n ≡ counted v big maxTags at) where
+    count_is : n ≡ entries_at v big at
+    count_is = (tests_passed _ _ n qc).1
 
-          pub directory_unpaid : (e x : ℕ) (d : Directory) → w ≡ Refused e x → d ≡ refused_directory e x
-              → Gives v big (directory_checks v big maxTags at) at left d
-          directory_unpaid e x d k z = gives_refused v big _ at left e x d (body_on (ended (directory_fee_checks v big at) (tag_checks v big at) u e x ew k)) z
+    body_there : There v (at + 2) (12 * n + 4)
+    body_there =
+        rw count_is (holds_there v (at + 2) (12 * entries_at v big at + 4)
+        (holds_then (count_checks v big maxTags at) (body_checks v big at) ((fine counting_checks).0 (tests_passed _ _ n qc).0)).1)
 
-          pub directory_read : (x : ℕ) (d : Directory) → w ≡ Passed x → Gives v big (tag_checks v big at) at x d
-              → Gives v big (directory_checks v big maxTags at) at left d
-          directory_read x d k g = record {
-            told_is = body_on (onward (directory_fee_checks v big at) (tag_checks v big at) u x ew k g.told_is);
-            entries_are = g.entries_are;
-            slots_are = g.slots_are;
-            next_is = g.next_is;
-          }
+    pub entries_fit : at + 2 + 12 * n + 4 ≤ v.size
+    entries_fit = omega (arith, body_there.in_file)
 
-pub ruleset directories = (count_there, directory_uncounted, directory_bodyless, body_there, directory_unpaid, directory_read, rules)
+    pub tags_there : There v (at + 2) (12 * n)
+    tags_there = there_part v (at + 2) (12 * n + 4) (at + 2) (12 * n) body_there (omega arith) (omega arith)
 
--- what is given is one directory: each of its four parts is said
-module _ (v : Seen) (big : Bool) (cs : List Check) (at left : ℕ) (a b : Directory) (x : Gives v big cs at left a) (y : Gives v big cs at left b) where
-  abbrev made : Told → Directory
-  made t = record { told = t; entries = on_pass t (entries_at v big at) 0; slots = on_pass t (slots_at v big at) none; next = on_pass t (next_at v big at) 0 }
+    pub next_there : There v (at + 2 + 12 * n) 4
+    next_there = there_part v (at + 2) (12 * n + 4) (at + 2 + 12 * n) 4 body_there (omega arith) (omega arith)
 
-  made_of : (d : Directory) → Gives v big cs at left d → d ≡ made (run cs left)
-  made_of d g = rw (← g.told_is, ← g.entries_are, ← g.slots_are, ← g.next_is)
+    counted_on : run (directory_checks v big maxTags at) left ≡ run (directory_fee_checks v big at ++ tag_checks v big at) left
+    counted_on =
+        ap (λ cs. run cs left) in_order
+        ∙ then counting_checks _ left left (run_fine _ left (free v big maxTags at) (tests_passed _ _ n qc).0)
 
-  pub gives_one : a ≡ b
-  gives_one = made_of a x ∙ sym (made_of b y)
+    pub directory_unpaid : {r : Refused} → Err r ≡ run (pay (n + 1) ∷ []) left → Err r ≡ answer
+    directory_unpaid {r} q = sym (by_checks (counted_on ∙ stops (directory_fee_checks v big at) _ left r (rw (← count_is) (sym q))))
+
+    module _ {u : ℕ} (qf : Ok u ≡ run (pay (n + 1) ∷ []) left) where
+      -- the tags decide what is left
+      abbrev by_tags : Bool → Result Directory Refused
+      by_tags fine = pick fine (Ok (directory_at v big at u)) (Err (leaving invalid u))
+
+      tags_on : answer ≡ by_tags (tags_fine v big (at + 2) n)
+      unfolding run
+      tags_on = by_checks (counted_on ∙ then (directory_fee_checks v big at) (tag_checks v big at) left u (rw (← count_is) (sym qf))) ∙ by (tags_fine v big (at + 2) (entries_at v big at)) ∙ ap (λ k. by_tags (tags_fine v big (at + 2) k)) (sym count_is)
+        where
+          by : (b : Bool) → giving_left (run (must b invalid ∷ []) u) (directory_at v big at) ≡ by_tags b
+          by true = refl
+          by false = refl
+
+      pub directory_untagged : None ≡ tags_of v big (at + 2) n → Err (leaving invalid u) ≡ answer
+      directory_untagged q = by (tags_fine v big (at + 2) n) q tags_on
+        where
+          by : (b : Bool) → None ≡ pick b (Some (slots_in v big (at + 2) n)) None → answer ≡ by_tags b → Err (leaving invalid u) ≡ answer
+          by true z e = absurd cc
+          by false z e = sym e
+
+      pub directory_read : {slots : List ℕ} {next : ℕ} → Some slots ≡ tags_of v big (at + 2) n → next ≡ four big v (at + 2 + 12 * n)
+          → Ok (record { entries = n; slots = slots; next = next; left = u }) ≡ answer
+      directory_read {slots} {next} q z = by (tags_fine v big (at + 2) n) q tags_on
+        where
+          by : (b : Bool) → Some slots ≡ pick b (Some (slots_in v big (at + 2) n)) None → answer ≡ by_tags b
+              → Ok (record { entries = n; slots = slots; next = next; left = u }) ≡ answer
+          by true p e = let s : slots ≡ slots_in v big (at + 2) n = cc in rw (e, s, z) (rw count_is refl)
+          by false p e = absurd cc
+
+pub ruleset directories = (directory_unpaid, directory_untagged, directory_read)
+
+-- what is given is one answer
+pub gives_one : (v : Seen) (big : Bool) (cs : List Check) (at left : ℕ) (a b : Result Directory Refused) → Gives v big cs at left a → Gives v big cs at left b → a ≡ b
+gives_one v big cs at left a b x y = x ∙ sym y

@@ -1,9 +1,10 @@
 -- One directory (rule 2.7): its number of entries, the entries by slot, the next offset and the charge.
-use Rattle.std.specs.Prelude.{ℕ, ◌+◌, ◌*◌, ◌≡◌, List, [], ◌∷◌, ◌++◌, Bool, ltb, leb}
+use Rattle.std.specs.Prelude.{ℕ, ◌+◌, ◌*◌, ◌≡◌, List, [], ◌∷◌, ◌++◌, Bool, Result, ltb, leb}
 use Rattle.checks.specs.Numbers.{invalid, limit}
-use Rattle.checks.specs.Checks.{Check, must, pay, run, on_pass}
+use Rattle.checks.specs.Checks.{Check, must, pay, run, giving_left}
+use Rattle.checks.specs.declared.Refused.{Refused}
 use Rattle.seen.specs.Seen.{Seen, there, two, four}
-use Rattle.tags.specs.Tags.{none, tags_fine, slots_in}
+use Rattle.tags.specs.Tags.{tags_fine, slots_in}
 use Rattle.directory.specs.declared.Directory.{Directory}
 
 module _ (v : Seen) (big : Bool) where
@@ -34,12 +35,16 @@ module _ (v : Seen) (big : Bool) where
   unfoldable pub directory_checks : ℕ → ℕ → List Check
   directory_checks maxTags at = count_checks maxTags at ++ (body_checks at ++ (directory_fee_checks at ++ tag_checks at))
 
-  -- what a directory gives at a place, after these checks
-  pub record Gives (cs : List Check) (at left : ℕ) (d : Directory) : Type 0 where
-    pub told_is : d.told ≡ run cs left
-    pub entries_are : d.entries ≡ on_pass d.told (entries_at at) 0
-    pub slots_are : d.slots ≡ on_pass d.told (slots_at at) none
-    pub next_is : d.next ≡ on_pass d.told (next_at at) 0
+  -- what a directory at a place gives, with so many units left
+  abbrev pub directory_at : ℕ → ℕ → Directory
+  directory_at at left = record { entries = entries_at at; slots = slots_at at; next = next_at at; left = left }
 
-  abbrev pub DirectoryIs : ℕ → ℕ → ℕ → Directory → Type 0
-  DirectoryIs maxTags at left d = Gives (directory_checks maxTags at) at left d
+  -- what a call answers that goes down these checks: their refusal, or the directory at a place
+  abbrev pub given : List Check → ℕ → ℕ → Result Directory Refused
+  given cs at left = giving_left (run cs left) (directory_at at)
+
+  abbrev pub Gives : List Check → ℕ → ℕ → Result Directory Refused → Type 0
+  Gives cs at left r = r ≡ given cs at left
+
+  abbrev pub DirectoryIs : ℕ → ℕ → ℕ → Result Directory Refused → Type 0
+  DirectoryIs maxTags at left r = Gives (directory_checks maxTags at) at left r

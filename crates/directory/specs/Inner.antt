@@ -1,19 +1,13 @@
--- What only the code's own functions ask for and leave: a directory whose bytes are there, and what a refusal gives.
-use Rattle.std.specs.Prelude.{ℕ, ◌+◌, ◌*◌, Bool}
-use Rattle.checks.specs.declared.Told.TheVariants.{Refused}
-use Rattle.seen.specs.Seen.{Seen, There}
-use Rattle.tags.specs.Tags.{none}
-use Rattle.directory.specs.Directory.{entries_at, tag_checks, Gives}
-use Rattle.directory.specs.declared.Directory.{Directory}
+-- What only the code's own functions leave: the answer of the tests of a number, and the number of entries where they and the next offset are there.
+use Rattle.std.specs.Prelude.{ℕ, List, [], ◌∷◌, ◌++◌, Bool, Result, ltb, leb}
+use Rattle.checks.specs.Numbers.{invalid, limit}
+use Rattle.checks.specs.Checks.{Check, must, verdict, giving}
+use Rattle.checks.specs.declared.Refusal.{Refusal}
+use Rattle.seen.specs.Seen.{Seen}
+use Rattle.directory.specs.Directory.{entries_at, count_checks, body_checks}
 
-module _ (v : Seen) (big : Bool) where
-  -- what the tags give, count, entries and next offset being there
-  abbrev pub BodyIs : ℕ → ℕ → Directory → Type 0
-  BodyIs at left d = Gives v big (tag_checks v big at) at left d
+abbrev pub number_checks : ℕ → ℕ → List Check
+number_checks n maxTags = must (ltb 0 n) invalid ∷ must (leb n maxTags) limit ∷ []
 
-  pub record Body (at : ℕ) : Type 0 where
-    pub count : There v at 2
-    pub body : There v (at + 2) (12 * entries_at v big at + 4)
-
-abbrev pub refused_directory : ℕ → ℕ → Directory
-refused_directory e u = record { told = Refused e u; entries = 0; slots = none; next = 0 }
+abbrev pub counted : Seen → Bool → ℕ → ℕ → Result ℕ Refusal
+counted v big maxTags at = giving (verdict (count_checks v big maxTags at ++ body_checks v big at)) (entries_at v big at)

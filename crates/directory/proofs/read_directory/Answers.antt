@@ -1,54 +1,31 @@
--- Count, body, charge and tags, each in its place in the list.
-use Rattle.directory.proofs.Directories.{directories}
+-- The entries that were counted are there, and so are their tags and the next offset.
+use mathlib.Core.Path.{◌∙◌}
+use native.Mathlib.Omega.{arith}
+use borrow.Author.Rules.{rules}
+use Rattle.checks.proofs.Rules.{handed_on}
+use Rattle.seen.specs.Seen.{seen}
+use Rattle.directory.proofs.Directories.{passed_on, refused_on, directory_uncounted, entries_fit, tags_there, next_there}
 use Rattle.directory.proofs.read_directory.Goals as goal
 
-pub check_count-requires : goal.check_count-requires
-check_count-requires c = search directories
+pub returns-in_err-entries : goal.returns-in_err-entries
+returns-in_err-entries c =
+    let (e, q, z) = refused_on c.args.left (λ e k. search rules) c.in_err-entries.ensures.cases in
+    handed_on c.from_residual.ensures.1 (directory_uncounted _ _ _ _ _ (q ∙ c.count_entries.ensures) z)
 
-pub enum_known-e : goal.enum_known-e
-enum_known-e c = search directories
+pub read_tags-requires : goal.read_tags-requires
+read_tags-requires c = tags_there _ _ _ _ c.args.left (passed_on c.in_ok-entries.ensures.cases ∙ c.count_entries.ensures)
 
-pub refused-requires : goal.refused-requires
-refused-requires c = search directories
+pub word4-next-requires : goal.word4-next-requires
+word4-next-requires c = next_there _ _ _ _ c.args.left (passed_on c.in_ok-entries.ensures.cases ∙ c.count_entries.ensures)
 
-pub enum_told-1 : goal.enum_told-1
-enum_told-1 c = search directories
+pub overflow_add-entries : goal.overflow_add-entries
+overflow_add-entries c = let f = entries_fit (seen c.args.file.now c.args.map.now) _ _ _ c.args.left (passed_on c.in_ok-entries.ensures.cases ∙ c.count_entries.ensures) in omega arith
 
-pub need_body-requires : goal.need_body-requires
-need_body-requires c = search directories
+pub overflow_add-first : goal.overflow_add-first
+overflow_add-first c = let f = entries_fit (seen c.args.file.now c.args.map.now) _ _ _ c.args.left (passed_on c.in_ok-entries.ensures.cases ∙ c.count_entries.ensures) in omega arith
 
-pub enum_known-e-in-Refused-need_body : goal.enum_known-e-in-Refused-need_body
-enum_known-e-in-Refused-need_body c = search directories
+pub overflow_mul-entries : goal.overflow_mul-entries
+overflow_mul-entries c = let f = entries_fit (seen c.args.file.now c.args.map.now) _ _ _ c.args.left (passed_on c.in_ok-entries.ensures.cases ∙ c.count_entries.ensures) in omega arith
 
-pub refused-requires-in-Refused-need_body : goal.refused-requires-in-Refused-need_body
-refused-requires-in-Refused-need_body c = search directories
-
-pub enum_known-u : goal.enum_known-u
-enum_known-u c = search directories
-
-pub pay_body-requires : goal.pay_body-requires
-pay_body-requires c = search directories
-
-pub enum_known-e-in-Refused-pay_body : goal.enum_known-e-in-Refused-pay_body
-enum_known-e-in-Refused-pay_body c = search directories
-
-pub refused-requires-in-Refused-pay_body : goal.refused-requires-in-Refused-pay_body
-refused-requires-in-Refused-pay_body c = search directories
-
-pub enum_known-v : goal.enum_known-v
-enum_known-v c = search directories
-
-pub read_body-requires : goal.read_body-requires
-read_body-requires c = search directories
-
-pub returns-in-Refused : goal.returns-in-Refused
-returns-in-Refused c = search directories
-
-pub returns-in-Refused-need_body : goal.returns-in-Refused-need_body
-returns-in-Refused-need_body c = search directories
-
-pub returns-in-Refused-pay_body : goal.returns-in-Refused-pay_body
-returns-in-Refused-pay_body c = search directories
-
-pub returns-in-Passed-pay_body : goal.returns-in-Passed-pay_body
-returns-in-Passed-pay_body c = search directories
+pub overflow_add-first-2 : goal.overflow_add-first-2
+overflow_add-first-2 c = let f = entries_fit (seen c.args.file.now c.args.map.now) _ _ _ c.args.left (passed_on c.in_ok-entries.ensures.cases ∙ c.count_entries.ensures) in omega arith
