@@ -9,24 +9,17 @@ ghost use Rattle.clearing.specs.Inner.{zero_row, Clearable};
 pub fn clear(part: &mut [u8])
     ensures { part.new ≡ replicate (length part.old) 0 }
 {
-    let mut i: usize = 0;
-    while i < part.len() {
-        part[i] = 0;
-        i += 1;
-    }
+    part.fill(0);
 }
 
 // Rows of so many bytes, the first at `first`, each further one a pitch later.
+#[tactic(auto, using(crate::proofs::ClearedRows::blanks))]
 pub fn clear_rows(size: usize, rows: usize, first: usize, pitch: usize, out: &mut [u8])
     requires { Clearable size rows first pitch (length out.old) }
     ensures { out.new ≡ spread (zero_row size) pitch 0 rows first out.old }
 {
-    let mut r: usize = 0;
-    let mut at = first;
-    while r < rows {
-        let end = at + size;
-        clear(&mut out[at..end]);
-        at += pitch;
-        r += 1;
+    for r in 0..rows {
+        let at = first + r * pitch;
+        out[at..at + size].fill(0);
     }
 }
