@@ -1,14 +1,13 @@
 -- What the loops of the checksum have done so far: so many bits of a byte, so many bytes of a buffer.
-use Prim.Native.Nat.{ℕ, ◌+◌, ◌/◌, ◌%◌, ◌<◌, ◌≤◌}
+use Prim.Native.Nat.{ℕ, ◌+◌, ◌/◌, ◌%◌, ◌≤◌}
 use mathlib.Core.Path.{◌≡◌, refl, ◌∙◌, ap}
-use mathlib.Core.List.{List}
+use mathlib.Core.List.{List, [], ◌∷◌}
 use native.Mathlib.Numerals.{add-one}
 use native.Mathlib.Nat.{le_antisymm}
 use lib.Bits.{bit_xor}
-use lib.ListN.{length, drop, get_or, drop_of_length-le}
-use lib.Seq.{drop-cons}
 use borrow.Author.Rules.{rules}
 use borrow.Author.Tests.{eq-eqb, ne_eqb}
+use Rattle.std.specs.List.{fold}
 use Rattle.records.specs.Crc.{bit_step, bit_steps, byte_step, byte_steps, crc_of}
 
 module _ (c : ℕ) where
@@ -32,14 +31,13 @@ pub bits_all : (c b k : ℕ) {d : ℕ} → k ≤ 8 → 8 ≤ k → d ≡ bit_ste
 unfolding byte_step
 bits_all c b k most least so_far = so_far ∙ ap (λ (n : ℕ). bit_steps n (bit_xor c b)) (le_antisymm most least)
 
-module _ (bytes : List ℕ) where
-  pub bytes_more : (c i : ℕ) {d : ℕ} → i < length bytes → d ≡ byte_step c (get_or bytes i 0)
-      → byte_steps c (drop i bytes) ≡ byte_steps 4294967295 bytes → byte_steps d (drop (i + 1) bytes) ≡ byte_steps 4294967295 bytes
-  unfolding byte_steps
-  bytes_more c i inside now so_far = rw (now, add-one i) (rw (drop-cons bytes i 0 inside) at so_far)
+bytes_fold : (c : ℕ) (bytes : List ℕ) → byte_steps c bytes ≡ fold byte_step c bytes
+unfolding byte_steps
+bytes_fold c [] = refl
+bytes_fold c (b ∷ rest) = bytes_fold (byte_step c b) rest
 
-  pub bytes_all : (c i : ℕ) → length bytes ≤ i → byte_steps c (drop i bytes) ≡ byte_steps 4294967295 bytes → bit_xor c 4294967295 ≡ crc_of bytes
-  unfolding byte_steps crc_of
-  bytes_all c i past so_far = ap (λ (x : ℕ). bit_xor x 4294967295) (rw (drop_of_length-le bytes past) at so_far)
+pub crc_folds : (bytes : List ℕ) → crc_of bytes ≡ bit_xor (fold byte_step 4294967295 bytes) 4294967295
+unfolding crc_of
+crc_folds bytes = rw bytes_fold
 
-pub ruleset checksum = (bit_set, bit_clear, bits_none, bits_more, bits_all, bytes_more, bytes_all, rules)
+pub ruleset checksum = (bit_set, bit_clear, bits_none, bits_more, bits_all, rules)

@@ -1,13 +1,12 @@
 -- A number that lies in the file is read from its two halves; past the end it is 0.
-use Prim.Native.Nat.{ℕ, ◌+◌, ◌*◌, ◌<◌, ◌≤◌}
+use Prim.Native.Nat.{ℕ, ◌+◌, ◌*◌}
 use mathlib.Core.Path.{◌≡◌, refl, sym, ◌∙◌}
 use mathlib.Core.List.{List, []}
 use mathlib.Core.Bool.{Bool, true, false}
 use native.Mathlib.Omega.{arith}
 use lib.ListN.{length}
 use borrow.Author.Rules.{rules}
-use borrow.Author.Tests.{lt-ltb, le-ltb}
-use Rattle.lists.specs.Lists.{pick, lesser}
+use Rattle.lists.specs.Lists.{pick}
 use Rattle.checks.specs.Checks.{verdict}
 use Rattle.checks.specs.declared.Verdict.{Verdict}
 use Rattle.checks.specs.declared.Verdict.TheVariants as VerdictIs
@@ -16,12 +15,6 @@ use Rattle.seen.specs.Seen.{Seen, seen, inside, there, There, four}
 use Rattle.seen.proofs.Words.{there_part, there_of}
 use Rattle.seen.proofs.Alike.{whole_came}
 use Rattle.records.specs.Records.{eight, number_at}
-
-pub lesser_first : (a b : ℕ) → a < b → a ≡ lesser a b
-lesser_first a b h = simp (lt-ltb _ _ h)
-
-pub lesser_second : (a b : ℕ) → b ≤ a → b ≡ lesser a b
-lesser_second a b h = simp (le-ltb _ _ h)
 
 module _ (v : Seen) (at : ℕ) where
   pub low_there : There v at 8 → There v at 4
@@ -56,4 +49,4 @@ module _ (file : List ℕ) (at : ℕ) {r : Verdict} (er : r ≡ verdict (there (
       by true t = rw t e
       by false t = absurd (refused_fine 1 (sym (told false t) ∙ q))
 
-pub ruleset numbers = (lesser_first, lesser_second, low_there, high_there, eight_read, none_there, number_read, there_of, rules)
+pub ruleset numbers = (low_there, high_there, eight_read, none_there, number_read, there_of, rules)

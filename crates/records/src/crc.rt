@@ -2,6 +2,7 @@
 ghost use Rattle.std.specs.Prelude.{◌≡◌};
 ghost use Rattle.records.specs.Crc.{bit_step, byte_step, crc_of};
 
+#[tactic(auto, using(crate::proofs::Checksum::checksum))]
 fn bit(crc: u32) -> u32
     ensures { result ≡ bit_step crc }
 {
@@ -12,26 +13,21 @@ fn bit(crc: u32) -> u32
     }
 }
 
+#[tactic(auto, using(crate::proofs::Checksum::checksum))]
 fn byte(crc: u32, b: u8) -> u32
     ensures { result ≡ byte_step crc b }
 {
-    let mut c = crc ^ (b as u32);
-    let mut k: usize = 0;
-    while k < 8 {
+    let mut c = crc ^ u32::from(b);
+    for _ in 0..8u8 {
         c = bit(c);
-        k += 1;
     }
     c
 }
 
+#[tactic(auto, using(crate::proofs::Checksum::crc_folds))]
 pub fn crc32(bytes: &[u8]) -> u32
     ensures { result ≡ crc_of bytes.now }
 {
-    let mut crc: u32 = 4294967295;
-    let mut i: usize = 0;
-    while i < bytes.len() {
-        crc = byte(crc, bytes[i]);
-        i += 1;
-    }
-    crc ^ 4294967295
+    let crc = bytes.iter().fold(u32::MAX, |crc, b| byte(crc, *b));
+    crc ^ u32::MAX
 }

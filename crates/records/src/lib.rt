@@ -14,15 +14,16 @@ pub mod crc;
 pub fn wide(x: u8) -> usize
     ensures { (result ≡ x) × (result < 256) }
 {
-    x as usize
+    usize::from(x)
 }
 
 pub fn least(a: usize, b: usize) -> usize
     ensures { (result ≡ lesser a b) × (result ≤ a) × (result ≤ b) }
 {
-    if a < b { a } else { b }
+    a.min(b)
 }
 
+#[tactic(auto, unfolding(crate::specs::Records::eight))]
 fn read(file: &[u8], at: usize) -> usize
     requires { There (seen file.now []) at 8 }
     ensures { result ≡ eight (seen file.now []) at }
