@@ -1,3 +1,2 @@
 pub mod Greys
-pub mod Lines
 pub mod Tallies

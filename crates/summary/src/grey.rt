@@ -5,6 +5,7 @@ ghost use Rattle.summary.specs.Grey.{grey_of, light_at, grey_at, whole_pixels};
 
 use checks::Size;
 
+#[tactic(auto, unfolding(crate::specs::Grey::grey_of))]
 fn grey_of(l: usize) -> u8
     ensures { result ≡ grey_of l }
 {
@@ -12,6 +13,7 @@ fn grey_of(l: usize) -> u8
 }
 
 // How many whole pixels so many bytes are: none where a pixel lacks the two bytes of L.
+#[tactic(auto, unfolding(crate::specs::Grey::whole_pixels))]
 pub fn whole_pixels(size: usize, bytes: usize) -> usize
     ensures { result ≡ whole_pixels size bytes }
 {
@@ -19,24 +21,23 @@ pub fn whole_pixels(size: usize, bytes: usize) -> usize
 }
 
 // L of a pixel.
+#[tactic(auto, unfolding(crate::specs::Grey::light_at))]
 pub fn light_at(size: usize, picture: &[u8], k: usize) -> usize
     requires { size * k + 2 ≤ length picture.now }
     ensures { result ≡ light_at size picture.now k }
 {
     let low = size * k;
-    let high = low + 1;
-    records::wide(picture[low]) + 256 * records::wide(picture[high])
+    usize::from(u16::from_le_bytes([picture[low], picture[low + 1]]))
 }
 
 // A grey value for each pixel, as many as are lent.
+#[tactic(auto, using(placing::proofs::Filled::tabulated))]
 pub fn put_grey(size: usize, picture: &[u8], grey: &mut [u8])
     requires { length grey.old ≤ whole_pixels size (length picture.now) }
     ensures { grey.new ≡ tabulate (length grey.old) (grey_at size picture.now) }
 {
-    let mut k: usize = 0;
-    while k < grey.len() {
-        grey[k] = grey_of(light_at(size, picture, k));
-        k += 1;
+    for (k, value) in grey.iter_mut().enumerate() {
+        *value = grey_of(light_at(size, picture, k));
     }
 }
 
