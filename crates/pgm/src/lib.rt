@@ -9,9 +9,11 @@ ghost use Rattle.placing.specs.Placing.{BytesPlaced};
 use summary::grey;
 
 // A number into the buffer at a place, in at most twenty digits; the place after it.
+#[tactic(auto, using(crate::proofs::Decimals::decimals))]
 fn append_number(n: usize, out: &mut [u8], at: usize) -> usize
     requires { at + 20 ≤ length out.old }
-    ensures { BytesPlaced (decimal_of n) at out.old result out.new × (result ≤ at + 20) }
+    ensures placed { BytesPlaced (decimal_of n) at out.old result out.new }
+    ensures within { result ≤ at + 20 }
 {
     let mut digits = [0; 20];
     let k = io::decimal(n as u64, &mut digits);
@@ -31,6 +33,7 @@ fn put_header(width: usize, height: usize, out: &mut [u8]) -> usize
 }
 
 // The grey values of all pixels into the buffer at a place, as far as there is room; the place after them.
+#[tactic(auto, using(crate::proofs::GreyFile::grey_file))]
 fn put_pixels(
     size: usize,
     picture: &[u8],
@@ -51,6 +54,7 @@ fn put_pixels(
 
 // The file's bytes at the start of the buffer, and how many there are: none where the longest header has no room. The picture has
 // so many bytes a pixel; where these lack the two of L, the header stands alone.
+#[tactic(auto, using(crate::proofs::GreyFile::grey_file))]
 pub fn put(size: usize, picture: &[u8], width: usize, height: usize, out: &mut [u8]) -> usize
     ensures prefix_len { IsPrefixLen result out.new }
     ensures out_after { take result out.new ≡ pgm_in size width height picture.now (length out.old) }

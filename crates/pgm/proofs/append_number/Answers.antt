@@ -2,8 +2,5 @@
 use Rattle.pgm.proofs.Decimals.{decimals}
 use Rattle.pgm.proofs.append_number.Goals as goal
 
-pub append-requires : goal.append-requires
-append-requires c = search decimals
-
-pub returns : goal.returns
-returns c = search decimals
+pub returns-clause-placed : goal.returns-clause-placed
+returns-clause-placed c = search decimals
