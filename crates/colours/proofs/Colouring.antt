@@ -9,9 +9,9 @@ use mir.Syntax.{w64}
 use mir.Val.{Fits}
 use lib.ListN.{length, take, drop, get_or}
 use lib.Seq.{length-take-le}
-use lib.Dec.{ltb, eqb}
+use lib.Dec.{eqb}
 use borrow.Author.Rules.{rules}
-use borrow.Author.Tests.{ltb-false, eq-eqb, eqb-true, eqb-false}
+use borrow.Author.Tests.{eq-eqb, eqb-true}
 use Rattle.std.proofs.lemmas.Bool.Decides.{nat_tests}
 use Rattle.lists.specs.Lists.{pick, lesser, tabulate, span, overlay}
 use Rattle.lists.proofs.Lesser.{lesser_min}
@@ -21,7 +21,6 @@ use Rattle.geometry.specs.Geometry.{pieces, byte_segment}
 use Rattle.placing.proofs.Filled.{tabulated}
 use Rattle.summary.proofs.Greys.{light_there}
 use Rattle.colours.specs.Colours.{colour_of, pixel_segment, colour_at, coloured_in}
-use Rattle.colours.specs.Inner.{Gridded}
 
 -- the segment's number is at most the pixel's, so that it is a number of 64 bits
 module _ (width across bw bh p : ℕ) where
@@ -45,40 +44,10 @@ pub ruleset counting = (fits_is, over_is, nat_tests)
 
 pub ruleset filling = (tabulated, light_there)
 
-module _ (width height bw bh most : ℕ) where
-  -- what a number above 0 says
-  module _ (n : ℕ) (e : n ≡ coloured_in width height bw bh most) (some : n ≡ 0 → ⊥) where
-    counted : (b₁ b₂ b₃ b₄ : Bool) (x : ℕ) → n ≡ pick b₁ 0 (pick b₂ 0 (pick b₃ 0 (pick b₄ 0 x)))
-        → (b₁ ≡ false) × (b₂ ≡ false) × (b₃ ≡ false) × (b₄ ≡ false) × (n ≡ x)
-    counted true b₂ b₃ b₄ x q = absurd (some q)
-    counted false true b₃ b₄ x q = absurd (some q)
-    counted false false true b₄ x q = absurd (some q)
-    counted false false false true x q = absurd (some q)
-    counted false false false false x q = (refl, refl, refl, refl, q)
-
-    pub colours_grid : Gridded width bw bh
-    unfolding coloured_in
-    colours_grid =
-        let k = counted (eqb width 0) (eqb bw 0) (eqb bh 0) (ltb most (width * height)) (width * height) e in
-        record {
-          some_wide = omega (arith, eqb-false width 0 k.0);
-          block_wide = omega (arith, eqb-false bw 0 k.1);
-          block_high = omega (arith, eqb-false bh 0 k.2);
-        }
-
-    pub colours_few : n ≤ most
-    unfolding coloured_in
-    colours_few =
-        let k = counted (eqb width 0) (eqb bw 0) (eqb bh 0) (ltb most (width * height)) (width * height) e in
-        omega (arith, ltb-false most (width * height) k.3, k.4)
-
 -- never more than can be
 pub coloured_most : (width height bw bh most : ℕ) → coloured_in width height bw bh most ≤ most
-coloured_most width height bw bh most = by (eqb (coloured_in width height bw bh most) 0) refl
-  where
-    by : (b : Bool) → eqb (coloured_in width height bw bh most) 0 ≡ b → coloured_in width height bw bh most ≤ most
-    by true t = omega (arith, eqb-true (coloured_in width height bw bh most) 0 t)
-    by false t = colours_few width height bw bh most _ refl (eqb-false (coloured_in width height bw bh most) 0 t)
+unfolding coloured_in
+coloured_most width height bw bh most = grind (arith, nat_tests)
 
 -- no pixel is coloured, and the first ones are
 pub none_over : (f : ℕ → ℕ) (old : List ℕ) → old ≡ overlay (tabulate 0 f) old
