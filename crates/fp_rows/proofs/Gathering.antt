@@ -1,55 +1,50 @@
--- A row gathered front to back: the counters of sample and byte give the place that the divisions would.
-use Rattle.std.proofs.Common.{◌≡◌, ℕ, ◌+◌, ◌*◌, ◌/◌, ◌%◌, ◌<◌, ◌≤◌, Bool, List, length, get_or, set, sym, ◌∙◌, mul-div_cancel, arith, rules}
-use Rattle.lists.proofs.Wrote.{Filling, filling_none, filling_more, filling_exactly}
+-- A row gathered sample by sample: byte b of sample s, so many bytes each, comes from the place that the definition names for byte s * bytes + b.
+use Rattle.std.proofs.Common.{◌≡◌, ℕ, ◌+◌, ◌*◌, ◌/◌, ◌%◌, ◌<◌, ◌≤◌, ◌≢◌, Bool, List, length, get_or, set, sym, ◌∙◌, mul-div_cancel, arith, rules, below_more, get_or-set_same, get_or-set_other}
+use lib.Arith.{digits_div, digits_mod}
+use lib.Seq.{ext_get_or}
+use lib.ListN.{length-set}
 use Rattle.fp_rows.specs.FpRows.{plane, gathered_row}
-use Rattle.lists.proofs.Counters.{grouped_in, Counted, counted_none, counted_more, counted_over, counted_div, counted_mod, counted_in}
+use Rattle.lists.proofs.Overlay.{length_span, get_d_tabulate}
+use Rattle.lists.proofs.Rows.{next_row}
 
 -- the place in a row of planes that byte k of the gathered row is taken from, and that byte
 abbrev pub source : Bool → ℕ → ℕ → ℕ → ℕ
 source little bytes size k = plane little bytes (k % bytes) * (size / bytes) + k / bytes
 
-abbrev byte_at : ℕ → ℕ → Bool → List ℕ → ℕ → ℕ
-byte_at size bytes little row k = get_or row (source little bytes size k) 0
+abbrev byte_at : ℕ → Bool → List ℕ → ℕ → ℕ
+byte_at bytes little row k = get_or row (source little bytes (length row) k) 0
 
-pub record Gathering (row : List ℕ) (samples bytes : ℕ) (little : Bool) (old out : List ℕ) (k b s : ℕ) : Type 0 where
-  pub wrote : Filling (byte_at (length row) bytes little row) (length row) old out k
-  pub count : Counted bytes k s b
-  pub upto : k ≤ length row
+-- the first k bytes are there
+pub record Gathering (row : List ℕ) (bytes : ℕ) (little : Bool) (out : List ℕ) (k : ℕ) : Type 0 where
   pub long : length out ≡ length row
-  pub size : length row ≡ samples * bytes
+  pub done : (i : ℕ) → i < k → get_or out i 0 ≡ byte_at bytes little row i
 
-pub gathering_none : (row : List ℕ) (samples bytes : ℕ) (little : Bool) (out : List ℕ) → length row ≡ samples * bytes → length out ≡ length row → 0 < bytes
-    → Gathering row samples bytes little out out 0 0 0
-gathering_none row samples bytes little out e l p =
-    record { wrote = filling_none _ _ _ (omega arith); count = counted_none bytes p; upto = omega arith; long = l; size = e }
+pub gathering_none : (row : List ℕ) (bytes : ℕ) (little : Bool) (out : List ℕ) → length out ≡ length row → Gathering row bytes little out 0
+gathering_none row bytes little out l = record { long = l; done = λ i h. absurd (omega arith) }
 
-module _ (row : List ℕ) (samples bytes : ℕ) (little : Bool) (old out : List ℕ) (k b s : ℕ) (g : Gathering row samples bytes little old out k b s) where
-  -- the byte lies in the row
-  pub gathering_in : (p : ℕ) → p < bytes → k < length out → p * samples + s < length row
-  gathering_in p h l =
-      let i : s < samples = counted_in _ _ _ _ g.count samples (omega (arith, g.size, g.long)) in
-      omega (arith, grouped_in bytes samples p s h i, g.size)
+module _ (row : List ℕ) (bytes : ℕ) (little : Bool) (out : List ℕ) where
+  pub gathering_same : (j k : ℕ) → Gathering row bytes little out j → j ≡ k → Gathering row bytes little out k
+  gathering_same j k g e = rw e at g
 
-  module _ (p : ℕ) (plane-is : p ≡ plane little bytes b) (l : k < length out) where
-    put : Filling (byte_at (length row) bytes little row) (length row) old (set out k (get_or row (p * samples + s) 0)) (k + 1)
-    put =
-        let positive : 0 < bytes = omega (arith, g.count.below) in
-        let d : length row / bytes ≡ samples = rw g.size (mul-div_cancel samples positive) in
-        filling_more _ _ _ _ _ g.wrote _ (omega (arith, g.long))
-        (rw (plane-is, d, counted_div _ _ _ _ g.count, counted_mod _ _ _ _ g.count))
+  pub gathering_more : (samples s b p : ℕ) → Gathering row bytes little out (s * bytes + b) → length row ≡ samples * bytes → b < bytes
+      → s * bytes + b < length out
+      → p ≡ plane little bytes b
+      → Gathering row bytes little (set out (s * bytes + b) (get_or row (p * samples + s) 0)) (s * bytes + (b + 1))
+  gathering_more samples s b p g e h l q =
+      let positive : 0 < bytes = omega arith in
+      let d : length row / bytes ≡ samples = rw e (mul-div_cancel samples positive) in
+      let v-is : get_or row (p * samples + s) 0 ≡ byte_at bytes little row (s * bytes + b) = rw (q, d, digits_div s h, digits_mod s h) in
+      let k = s * bytes + b in
+      let here = get_or row (p * samples + s) 0 in
+      let below : (i : ℕ) → i < k → get_or (set out k here) i 0 ≡ byte_at bytes little row i =
+      λ i u. let ne : i ≢ k = omega arith in rw get_or-set_other (g.done i u) in
+      let more = below_more (λ i. get_or (set out k here) i 0 ≡ byte_at bytes little row i) k below (rw get_or-set_same v-is) in
+      record { long = length-set out k here ∙ g.long; done = λ i t. more i (omega arith) }
 
-    turn : (b' s' : ℕ) → Counted bytes (k + 1) s' b' → Gathering row samples bytes little old (set out k (get_or row (p * samples + s) 0)) (k + 1) b' s'
-    turn b' s' c = record { wrote = put; count = c; upto = put.upto; long = put.long ∙ sym g.wrote.long ∙ g.long; size = g.size }
-
-    -- the next byte of the sample, and the first of the next
-    pub gathering_more : (b + 1 ≡ bytes → ⊥) → Gathering row samples bytes little old (set out k (get_or row (p * samples + s) 0)) (k + 1) (b + 1) s
-    gathering_more h = turn (b + 1) s (counted_more _ _ _ _ g.count h)
-
-    pub gathering_over : b + 1 ≡ bytes → Gathering row samples bytes little old (set out k (get_or row (p * samples + s) 0)) (k + 1) 0 (s + 1)
-    gathering_over h = turn 0 (s + 1) (counted_over _ _ _ _ g.count h)
-
-  pub gathering_all : length out ≤ k → length old ≡ length row → out ≡ gathered_row (length row) bytes little row
+  pub gathering_all : (k : ℕ) → Gathering row bytes little out k → length row ≤ k → out ≡ gathered_row (length row) bytes little row
   unfolding gathered_row
-  gathering_all h l = filling_exactly _ _ _ _ _ g.wrote (omega (arith, g.long)) l
+  gathering_all k g h =
+      ext_get_or 0 out _ (g.long ∙ sym (length_span _ 0 (length row)))
+      (λ i l. g.done i (omega (arith, g.long)) ∙ sym (get_d_tabulate (byte_at bytes little row) (length row) i (rw g.long at l)))
 
-pub ruleset gathers = (gathering_none, gathering_in, gathering_more, gathering_over, gathering_all, rules)
+pub ruleset gathers = (gathering_none, gathering_same, gathering_more, gathering_all, next_row, rules)

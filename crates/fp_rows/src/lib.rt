@@ -10,14 +10,9 @@ fn sum_row(raw: &[u8], ch: usize, out: &mut [u8])
     requires { (length out.old ≡ length raw.now) × (0 < ch) × (ch ≤ length raw.now) }
     ensures { out.new ≡ summed_row (length raw.now) ch raw.now }
 {
-    let mut i: usize = 0;
-    while i < ch {
-        out[i] = raw[i];
-        i += 1;
-    }
-    while i < raw.len() {
-        out[i] = std::num::wrapping_add_u8(raw[i], out[i - ch]);
-        i += 1;
+    out.copy_from_slice(raw);
+    for i in ch..out.len() {
+        out[i] = out[i].wrapping_add(out[i - ch]);
     }
 }
 
@@ -34,17 +29,9 @@ fn gather_row(planes: &[u8], samples: usize, bytes: usize, little: bool, out: &m
     requires { (length planes.now ≡ samples * bytes) × (length out.old ≡ length planes.now) × (0 < bytes) }
     ensures { out.new ≡ gathered_row (length planes.now) bytes little planes.now }
 {
-    let mut k: usize = 0;
-    let mut b: usize = 0;
-    let mut s: usize = 0;
-    while k < out.len() {
-        let plane = plane_of(little, bytes, b);
-        out[k] = planes[plane * samples + s];
-        k += 1;
-        b += 1;
-        if b == bytes {
-            b = 0;
-            s += 1;
+    for s in 0..samples {
+        for b in 0..bytes {
+            out[s * bytes + b] = planes[plane_of(little, bytes, b) * samples + s];
         }
     }
 }
@@ -53,13 +40,10 @@ pub fn sum_rows(raw: &[u8], row: usize, rows: usize, ch: usize, scratch: &mut [u
     requires { (rows * row ≤ length raw.now) × (rows * row ≤ length scratch.old) × (0 < ch) × (ch ≤ row) }
     ensures { scratch.new ≡ overlay (per_row (summed_row row ch) row rows raw.now) scratch.old }
 {
-    let mut r: usize = 0;
-    let mut at: usize = 0;
-    while r < rows {
-        let e = at + row;
-        sum_row(&raw[at..e], ch, &mut scratch[at..e]);
-        r += 1;
-        at = e;
+    for r in 0..rows {
+        let at = r * row;
+        let end = at + row;
+        sum_row(&raw[at..end], ch, &mut scratch[at..end]);
     }
 }
 
@@ -75,12 +59,9 @@ pub fn gather_rows(
     ensures { out.new ≡ overlay (per_row (gathered_row row bytes little) row rows planes.now) out.old }
 {
     let samples = row / bytes;
-    let mut r: usize = 0;
-    let mut at: usize = 0;
-    while r < rows {
-        let e = at + row;
-        gather_row(&planes[at..e], samples, bytes, little, &mut out[at..e]);
-        r += 1;
-        at = e;
+    for r in 0..rows {
+        let at = r * row;
+        let end = at + row;
+        gather_row(&planes[at..end], samples, bytes, little, &mut out[at..end]);
     }
 }

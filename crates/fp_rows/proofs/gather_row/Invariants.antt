@@ -1,9 +1,9 @@
-use Rattle.std.proofs.Common.{◌-◌, length}
+use Rattle.std.proofs.Common.{◌+◌, ◌*◌}
 use Rattle.fp_rows.proofs.Gathering.{Gathering}
 use Rattle.fp_rows.proofs.gather_row.Given as goal
 
-abbrev pub invariant-loop-k : goal.invariant-loop-k
-invariant-loop-k l = Gathering l.planes l.samples l.bytes l.little l.initial.out l.out l.k l.b l.s
+abbrev pub invariant-loop-s : goal.invariant-loop-s
+invariant-loop-s l = Gathering l.planes l.bytes l.little l.out (l.s * l.bytes)
 
-abbrev pub decreases-loop-k : goal.decreases-loop-k
-decreases-loop-k l = length l.planes - l.k
+abbrev pub invariant-loop-b : goal.invariant-loop-b
+invariant-loop-b l = Gathering l.planes l.bytes l.little l.out (l.s * l.bytes + l.b)
