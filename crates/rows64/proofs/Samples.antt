@@ -1,30 +1,10 @@
 -- What a sample is: its value, with the sample before it in its channel added where the sum goes on.
-use Rattle.std.proofs.Common.{◌≡◌, ℕ, zero, suc, ◌+◌, ◌-◌, ◌/◌, ◌%◌, ◌^◌, ◌<◌, ◌≤◌, Bool, true, false, List, take, drop, sym, refl, ap, ◌∙◌, arith, le-ltb, lt-ltb}
-use borrow.Rule.Slice.PartMut.{mid_of}
+use Rattle.std.proofs.Common.{◌≡◌, ℕ, suc, ◌+◌, ◌-◌, ◌*◌, ◌/◌, ◌%◌, ◌^◌, ◌<◌, Bool, true, false, List, sym, refl, ap, ◌∙◌, arith}
+use lib.Arith.{digits_div}
 use Rattle.lists.specs.Sums.{summed_back}
 use Rattle.lists.proofs.Sums.{sum_first, sum_step, sum_fits}
-use Rattle.words64.specs.Words64.{number_from, word}
 use Rattle.rows64.specs.Rows64.{value, sample}
-use Rattle.rows64.specs.Inner.{Standing, sample_sum}
 use Rattle.lists.proofs.Counters.{turn_before}
-
--- the three returns of sum_at
-module _ (predict : Bool) (since v b : ℕ) where
-  pub summed_plain : predict ≡ false → v ≡ sample_sum predict since v b
-  summed_plain e = rw e
-
-  pub summed_anew : predict ≡ true → since ≤ 0 → v ≡ sample_sum predict since v b
-  summed_anew e h = rw e (simp (le-ltb 0 since h))
-
-  pub summed_on : (r : ℕ) → predict ≡ true → 0 < since → r ≡ (v + b) % 2 ^ 64 → r ≡ sample_sum predict since v b
-  summed_on r e h q = rw e (simp (lt-ltb 0 since h) q)
-
-pub summed_part : (predict : Bool) (since v b r from : ℕ) (front : List ℕ) → predict ≡ true → 0 < since
-    → b ≡ word true (mid_of from (from + 8 - from) front) → r ≡ (v + b) % 2 ^ 64 → r ≡ sample_sum predict since v (number_from (take 8 (drop from front)))
-unfolding word
-summed_part predict since v b r from front e h q t =
-    let k : from + 8 - from ≡ 8 = omega arith in
-    summed_on predict since v _ r e h (rw (← rw k at q) t)
 
 -- The recurrence: without prediction a sample is its value; with it, where the column is a multiple of the reset width
 -- it is its value, and elsewhere its value and the sample before it in its channel, modulo 2^64.
@@ -49,14 +29,23 @@ module _ (little : Bool) (ch reset : ℕ) (row : List ℕ) (n : ℕ) where
   unfolding sample
   sample_fits = sum_fits 64 (value little row) ch n (n / ch % reset)
 
--- the same in the code's words: its place in the sum, and what was read of the sample before
-pub sample_is : (little predict : Bool) (ch reset : ℕ) (row : List ℕ) (n channel since b : ℕ)
-    → Standing ch reset n channel since → value little row n < 2 ^ 64
-    → (predict ≡ true → 0 < since → b ≡ sample little predict ch reset row (n - ch))
-    → sample_sum predict since (value little row n) b ≡ sample little predict ch reset row n
-sample_is little false ch reset row n channel since b s h e = sym (sample_plain little ch reset row n)
-sample_is little true ch reset row n channel zero b s h e = sym (sample_first little ch reset row n (sym s.since_is) h)
-sample_is little true ch reset row n channel (suc k) b s h e =
-    sym
-    (summed_on true (suc k) (value little row n) b (sample little true ch reset row n) refl (omega arith)
-    (rw (e refl (omega arith)) (sample_next little ch reset row n s.channels s.resets (λ z. omega (arith, s.since_is)))))
+-- the same of the sample in a channel of a column
+module _ (little predict : Bool) (ch reset : ℕ) (row : List ℕ) (column channel : ℕ) (inside : channel < ch) where
+  -- where no sum goes on, its value
+  pub sample_anew : (predict ≡ true → column % reset ≡ 0) → value little row (column * ch + channel) < 2 ^ 64
+      → value little row (column * ch + channel) ≡ sample little predict ch reset row (column * ch + channel)
+  sample_anew none fits = by predict refl
+    where
+      by : (b : Bool) → predict ≡ b → value little row (column * ch + channel) ≡ sample little predict ch reset row (column * ch + channel)
+      by false e = rw e (sym (sample_plain little ch reset row (column * ch + channel)))
+      by true e =
+          let d : (column * ch + channel) / ch % reset ≡ 0 = rw digits_div (none e) in
+          rw e (sym (sample_first little ch reset row (column * ch + channel) d fits))
+
+  -- where it goes on, its value and the sample a column before
+  pub sample_on : predict ≡ true → 0 < reset → (column % reset ≡ 0 → ⊥)
+      → (value little row (column * ch + channel) + sample little predict ch reset row (column * ch + channel - ch)) % 2 ^ 64
+      ≡ sample little predict ch reset row (column * ch + channel)
+  sample_on e some later =
+      let d : (column * ch + channel) / ch ≡ column = digits_div column inside in
+      rw e (sym (sample_next little ch reset row (column * ch + channel) (omega arith) some (rw d later)))

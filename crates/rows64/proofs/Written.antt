@@ -1,15 +1,14 @@
 -- The writer of a row's samples, eight bytes a turn, and what it reads again of those it has written.
-use Rattle.std.proofs.Common.{◌≡◌, ℕ, ◌+◌, ◌-◌, ◌*◌, ◌^◌, ◌<◌, ◌≤◌, Bool, true, List, length, take, drop, ap, ◌∙◌, arith}
-use native.Mathlib.Nat.{sub-zero}
-use borrow.Rule.Slice.PartMut.{mid_of, put_mid, mid_len}
-use Rattle.lists.proofs.Rows.{Even, Joining, joining_none, joining_more, joining_exactly, joining_part, joined_length}
-use Rattle.words64.specs.Words64.{number_from, digits, word}
+use Rattle.std.proofs.Common.{◌≡◌, ℕ, ◌+◌, ◌-◌, ◌*◌, ◌%◌, ◌^◌, ◌<◌, ◌≤◌, Bool, true, List, length, take, drop, ap, ◌∙◌, arith}
+use Rattle.std.proofs.lemmas.List.{drop-take, take-take}
+use native.Mathlib.Nat.{mul-le-mul_right}
+use borrow.Rule.Slice.PartMut.{mid_of, put_mid}
+use Rattle.lists.proofs.Rows.{Even, Joining, joining_none, joining_more, joining_exactly, joining_part, joined_length, row_fits}
+use Rattle.words64.specs.Words64.{digits, word}
 use Rattle.rows64.specs.Rows64.{value, sample, row64}
-use Rattle.rows64.specs.Inner.{Standing, Behind, RowFits, sample_sum}
-use Rattle.lists.proofs.Counters.{group_before}
+use Rattle.rows64.specs.Inner.{RowFits}
 use Rattle.words64.proofs.Digits.{digits_length, number_digits}
-use Rattle.rows64.proofs.Places.{standing_first}
-use Rattle.rows64.proofs.Samples.{sample_is, sample_fits}
+use Rattle.rows64.proofs.Samples.{sample_fits, sample_anew, sample_on}
 
 -- the bytes of each sample
 abbrev pub bytes_of : Bool → Bool → ℕ → ℕ → List ℕ → ℕ → List ℕ
@@ -23,71 +22,62 @@ pub row_length : (little predict : Bool) (w ch reset : ℕ) (row : List ℕ) →
 unfolding row64
 row_length little predict w ch reset row = joined_length (bytes_of little predict ch reset row) 8 (w * ch) (eight _ _) ∙ omega arith
 
-part_value : (little : Bool) (raw : List ℕ) (i at : ℕ) → at ≡ i * 8 → word little (mid_of at (at + 8 - at) raw) ≡ value little raw i
-unfolding value
-part_value little raw i at e =
-    let k : at + 8 - at ≡ 8 = omega arith in
-    let p : at ≡ 8 * i = omega arith in
-    rw (k, p)
-
--- the eight bytes that lie ch samples before the end of what is written
-abbrev again : List ℕ → ℕ → ℕ → List ℕ
-again out at ch = take 8 (drop (length (mid_of 0 (at - 0) out) - 8 * ch) (mid_of 0 (at - 0) out))
-
-pub record Sampling (little predict : Bool) (w ch reset : ℕ) (raw old out : List ℕ) (i at channel since : ℕ) : Type 0 where
-  pub input : length raw ≡ 8 * (w * ch)
-  pub room : length old ≡ 8 * (w * ch)
-  pub stands : Standing ch reset i channel since
-  pub joins : Joining (bytes_of little predict ch reset raw) 8 (w * ch) old out i at
+-- the first i samples are written
+pub record Sampling (little predict : Bool) (w ch reset : ℕ) (raw old out : List ℕ) (i : ℕ) : Type 0 where
+  pub fits : RowFits w ch reset (length raw) (length old)
+  pub joins : Joining (bytes_of little predict ch reset raw) 8 (w * ch) old out i (8 * i)
 
 pub sampling_none : (little predict : Bool) (w ch reset : ℕ) (raw out : List ℕ) → RowFits w ch reset (length raw) (length out)
-    → Sampling little predict w ch reset raw out out 0 0 0 0
-sampling_none little predict w ch reset raw out s =
-    record {
-      input = s.input;
-      room = s.room;
-      stands = standing_first ch reset s.channels s.resets;
-      joins = joining_none _ 8 (w * ch) out (omega (arith, s.room));
-    }
+    → Sampling little predict w ch reset raw out out 0
+sampling_none little predict w ch reset raw out s = record { fits = s; joins = joining_none _ 8 (w * ch) out (omega (arith, s.room)) }
 
-module _ (little predict : Bool) (w ch reset : ℕ) (raw old out : List ℕ) (i at channel since : ℕ)
-    (s : Sampling little predict w ch reset raw old out i at channel since) where
+module _ (little predict : Bool) (w ch reset : ℕ) (raw old out : List ℕ) (i : ℕ) (s : Sampling little predict w ch reset raw old out i) where
   -- all is written
-  pub sampling_all : length raw ≤ at → out ≡ row64 little predict w ch reset raw
+  pub sampling_all : w * ch ≤ i → out ≡ row64 little predict w ch reset raw
   unfolding row64
-  sampling_all h = joining_exactly _ 8 (w * ch) old out i at s.joins (omega (arith, s.joins.put, s.input)) (eight _ _) (omega (arith, s.room))
+  sampling_all h = joining_exactly _ 8 (w * ch) old out i (8 * i) s.joins h (eight _ _) (omega (arith, s.fits.room))
 
-  front_long : length (mid_of 0 (at - 0) out) ≡ at
-  front_long = mid_len 0 at out (omega (arith, s.joins.put, s.joins.upto, s.joins.long, s.room)) ∙ omega arith
+at_place : (f : ℕ → List ℕ) (b n : ℕ) (old out : List ℕ) (r r' o o' : ℕ)
+    → Joining f b n old out r o → r ≡ r' → o ≡ o' → Joining f b n old out r' o'
+at_place f b n old out r r' o o' j e p = rw (e, p) at j
 
-  -- the sample before lies in what is written
-  behind : 0 < since → ch ≤ i
-  behind h = group_before i ch reset (since - 1) s.stands.channels s.stands.resets (omega (arith, s.stands.since_is))
+-- The next one: the value of eight bytes of the row, and where the sum goes on that and what was written a column before.
+module _ (little predict : Bool) (w ch reset : ℕ) (raw old out : List ℕ) (column channel : ℕ)
+    (s : Sampling little predict w ch reset raw old out (column * ch + channel)) (inside : channel < ch) (v : ℕ)
+    (is : v ≡ word little (mid_of (8 * (column * ch + channel)) (8 * (column * ch + channel) + 8 - 8 * (column * ch + channel)) raw)) where
+  v-is : v ≡ value little raw (column * ch + channel)
+  unfolding value
+  v-is = let k : 8 * (column * ch + channel) + 8 - 8 * (column * ch + channel) ≡ 8 = omega arith in is ∙ rw k
 
-  pub sampling_behind : Behind (mid_of 0 (at - 0) out) (8 * ch) since
-  sampling_behind =
-      record { whole = omega (arith, s.stands.channels); inside = λ p. omega (arith, behind p, front_long, s.joins.put) }
+  pub next_anew : v < 2 ^ 64 → (predict ≡ true → column % reset ≡ 0) → v ≡ sample little predict ch reset raw (column * ch + channel)
+  next_anew fits none = v-is ∙ sample_anew little predict ch reset raw column channel inside none (rw v-is at fits)
 
-  -- and what is read of it is that sample
-  read_again : predict ≡ true → 0 < since → number_from (again out at ch) ≡ sample little predict ch reset raw (i - ch)
-  read_again t p =
-      let e : length (mid_of 0 (at - 0) out) - 8 * ch ≡ (i - ch) * 8 = omega (arith, front_long, s.joins.put) in
-      let l : i - ch < i = omega (arith, behind p, s.stands.channels) in
-      rw (e, sub-zero at, joining_part _ 8 (w * ch) (eight _ _) (i - ch) old out i at s.joins l, t)
-      (number_digits 8 _ (sample_fits little ch reset raw (i - ch)))
+  pub next_on : (b r before : ℕ) → predict ≡ true → 0 < column % reset → before ≡ 8 * (column * ch + channel) - 8 * ch
+      → b ≡ word true (mid_of before (before + 8 - before) out)
+      → r ≡ (v + b) % 2 ^ 64
+      → r ≡ sample little predict ch reset raw (column * ch + channel)
+  unfolding word
+  next_on b r before e later at b-is r-is =
+      let i = column * ch + channel in
+      let last = i - ch in
+      let some : 1 ≤ column = omega (arith, s.fits.resets) in
+      let ahead : 1 * ch ≤ column * ch = mul-le-mul_right ch some in
+      let place : before ≡ last * 8 = omega arith in
+      let ends : 8 * i ≡ last * 8 + 8 * ch = omega arith in
+      let wide : 8 ≤ 8 * ch = omega arith in
+      let long : before + 8 - before ≡ 8 = omega arith in
+      let front : take 8 (drop (last * 8) out) ≡ digits 8 (sample little predict ch reset raw last) =
+      rw (ends, drop-take, take-take) at (joining_part _ 8 (w * ch) (eight _ _) last old out i (8 * i) s.joins (omega arith)) in
+      let b-is : b ≡ sample little predict ch reset raw last =
+      b-is ∙ rw (long, place, front, e) (number_digits 8 _ (sample_fits little ch reset raw last)) in
+      r-is ∙ rw (v-is, b-is) (sample_on little predict ch reset raw column channel inside e s.fits.resets (omega arith))
 
-  pub sampling_more : at < length raw → (v r : ℕ) (ys : List ℕ) (channel' since' : ℕ) → v ≡ word little (mid_of at (at + 8 - at) raw) → v < 2 ^ 64
-      → r ≡ sample_sum predict since v (number_from (again out at ch)) → ys ≡ digits 8 r
-      → Standing ch reset (i + 1) channel' since'
-      → Sampling little predict w ch reset raw old (put_mid at (at + 8 - at) out ys) (i + 1) (at + 8) channel' since'
-  sampling_more h v r ys channel' since' ev lv er ey st =
-      let n : i < w * ch = omega (arith, s.joins.put, s.input) in
-      let v-is : v ≡ value little raw i = ev ∙ part_value little raw i at s.joins.put in
-      let r-is : r ≡ sample little predict ch reset raw i =
-      er ∙ rw v-is (sample_is little predict ch reset raw i channel since (number_from (again out at ch)) s.stands (rw v-is at lv) read_again) in
-      record {
-        input = s.input;
-        room = s.room;
-        stands = st;
-        joins = joining_more _ 8 (w * ch) old out i at s.joins n ys (ey ∙ ap (digits 8) r-is) (rw ey (digits_length 8 r));
-      }
+  pub next_written : column < w → (r : ℕ) (ys : List ℕ) → r ≡ sample little predict ch reset raw (column * ch + channel) → ys ≡ digits 8 r
+      → Sampling little predict w ch reset raw old
+      (put_mid (8 * (column * ch + channel)) (8 * (column * ch + channel) + 8 - 8 * (column * ch + channel)) out ys)
+      (column * ch + (channel + 1))
+  next_written h r ys r-is ys-is =
+      let i = column * ch + channel in
+      let room : i < w * ch = omega (arith, row_fits column w ch h) in
+      let more = joining_more _ 8 (w * ch) old out i (8 * i) s.joins room ys (ys-is ∙ ap (digits 8) r-is) (rw ys-is (digits_length 8 r)) in
+      record { fits = s.fits; joins = at_place _ _ _ _ _ _ _ _ _ more (omega arith) (omega arith) }
