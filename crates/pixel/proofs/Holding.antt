@@ -8,7 +8,7 @@ use lib.Dec.{T, eqb, eqb→eq}
 use lib.ListN.{length, get_or}
 use Rattle.lists.proofs.Table.{every, at}
 use Rattle.pixel.specs.Luv.{uv}
-use Rattle.pixel.specs.Inner.{HoldsUv}
+use Rattle.pixel.specs.Table.{HoldsUv}
 
 abbrev is_uv : ℕ → ℕ → Bool
 is_uv place entry = eqb entry (uv place)

@@ -1,54 +1,43 @@
--- Pixels as their stores: one by its bytes, and four as three numbers of eight bytes.
+-- Pixels by their bytes: one, and four as three numbers of eight bytes.
 use Prim.Native.Nat.{ℕ, ◌+◌, ◌*◌, ◌/◌, ◌%◌, ◌<◌}
 use mathlib.Core.Path.{◌≡◌, ◌∙◌}
 use mathlib.Core.List.{List, [], ◌∷◌, ◌++◌, append-nil}
 use native.Mathlib.Omega.{arith}
 use borrow.Rule.Slice.PartMut.{put_mid}
-use lib.ListN.{length, get_or, set}
+use lib.ListN.{length, get_or}
 use Rattle.lists.specs.Lists.{span, joined}
 use Rattle.lists.proofs.Overlay.{listed}
-use Rattle.pixel.specs.Luv.{uv, mono_pixel, pixel}
-use Rattle.pixel.specs.Inner.{six, eight_bytes, four_samples, light_pixel}
+use Rattle.std.specs.Int.{w16, w64, to_le_bytes}
+use Rattle.pixel.specs.Luv.{uv, pixel}
+use Rattle.pixel.specs.Inner.{six, four_samples, light_pixel}
 use Rattle.pixel.specs.declared.Samples.{Samples}
 
--- six stores fill a list of six
-pub six_pixel : (d : List ℕ) (high low u v a b : ℕ) → length d ≡ 6 → a ≡ uv u → b ≡ uv v
-    → set (set (set (set (set (set d 0 low) 1 high) 2 (a % 256)) 3 (a / 256)) 4 (b % 256)) 5 (b / 256) ≡ pixel high low u v
-unfolding pixel span
-six_pixel d high low u v a b n p q = rw (listed 6 d n, p, q)
+-- uv's two bytes, the low one first
+uv_bytes : (us : List ℕ) (u a : ℕ) → a ≡ uv u → a < 65536 → us ≡ to_le_bytes w16 a → (get_or us 0 0 ≡ uv u % 256) × (get_or us 1 0 ≡ uv u / 256)
+uv_bytes us u a p l e = let q : get_or us 1 0 ≡ a / 256 = rw e (omega arith) in (rw (e, p), q ∙ rw p)
 
-pub two_mono : (d : List ℕ) (high low : ℕ) → length d ≡ 2 → set (set d 0 low) 1 high ≡ mono_pixel high low
-unfolding span
-two_mono d high low n = rw (listed 2 d n)
-
-pub eight_stores : (d : List ℕ) (x : ℕ) → length d ≡ 8
-    → set
-    (set
-    (set
-    (set
-    (set (set (set (set d 0 (x % 256)) 1 (x / 256 % 256)) 2 (x / 65536 % 256)) 3 (x / 16777216 % 256))
-    4
-    (x / 4294967296 % 256))
-    5
-    (x / 1099511627776 % 256))
-    6
-    (x / 281474976710656 % 256))
-    7
-    (x / 72057594037927936 % 256)
-    ≡ eight_bytes x
-unfolding eight_bytes span
-eight_stores d x n = rw (listed 8 d n)
+-- a pixel by them
+pub pixel_stored : (out us vs : List ℕ) (high low u v a b : ℕ) → a ≡ uv u → b ≡ uv v → a < 65536 → b < 65536 → us ≡ to_le_bytes w16 a
+    → vs ≡ to_le_bytes w16 b
+    → out ≡ low ∷ high ∷ get_or us 0 0 ∷ get_or us 1 0 ∷ get_or vs 0 0 ∷ get_or vs 1 0 ∷ []
+    → out ≡ pixel high low u v
+unfolding pixel
+pixel_stored out us vs high low u v a b p q la lb eu ev e =
+    let x = uv_bytes us u a p la eu in
+    let y = uv_bytes vs v b q lb ev in
+    e ∙ rw (x.0, x.1, y.0, y.1)
 
 same_eight : {a b c d e f g h a' b' c' d' e' f' g' h' : ℕ} → a ≡ a' → b ≡ b' → c ≡ c' → d ≡ d' → e ≡ e' → f ≡ f' → g ≡ g' → h ≡ h'
     → a ∷ b ∷ c ∷ d ∷ e ∷ f ∷ g ∷ h ∷ [] ≡ a' ∷ b' ∷ c' ∷ d' ∷ e' ∷ f' ∷ g' ∷ h' ∷ []
 same_eight p q r s t u v w = rw (p, q, r, s, t, u, v, w)
 
 -- four samples are the bytes of one number
-pub samples_stored : (out : List ℕ) (a b c d p q r s : ℕ) → p ≡ a → q ≡ b → r ≡ c → s ≡ d → p < 65536 → q < 65536 → r < 65536 → s < 65536
-    → out ≡ eight_bytes (p + q * 65536 + r * 4294967296 + s * 281474976710656) → out ≡ four_samples a b c d
-unfolding eight_bytes four_samples
-samples_stored out a b c d p q r s ea eb ec ed ha hb hc hd e =
-    rw e (same_eight (omega arith) (omega arith) (omega arith) (omega arith) (omega arith) (omega arith) (omega arith) (omega arith))
+pub samples_stored : (out : List ℕ) (a b c d n : ℕ) → a < 65536 → b < 65536 → c < 65536 → d < 65536
+    → n ≡ a + b * 65536 + c * 4294967296 + d * 281474976710656 → out ≡ to_le_bytes w64 n
+    → out ≡ four_samples a b c d
+unfolding four_samples
+samples_stored out a b c d n ha hb hc hd is e =
+    rw (e, is) (same_eight (omega arith) (omega arith) (omega arith) (omega arith) (omega arith) (omega arith) (omega arith) (omega arith))
 
 -- twelve of them are four pixels
 pub twelve_stored : (out a b c : List ℕ) (p q r s : Samples) → length out ≡ 24 → a ≡ four_samples p.light p.u p.v q.light

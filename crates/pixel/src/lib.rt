@@ -4,52 +4,33 @@
 ghost use Rattle.std.specs.Prelude.{◌≡◌, ◌++◌, ◌<◌, length};
 ghost use Rattle.lists.specs.Lists.{joined};
 ghost use Rattle.pixel.specs.Luv.{uv, mono_pixel, pixel};
-ghost use Rattle.pixel.specs.Inner.{HoldsUv, Six, HasPixel, Four, six, eight_bytes, four_samples, light_pixel};
+ghost use Rattle.pixel.specs.Inner.{HasPixel, Four, six, four_samples, light_pixel};
+
+use table::Table;
 
 // uv as a table. Nothing else knows its numbers.
 pub mod table;
 
-fn place(x: u8) -> usize
-    ensures { (result ≡ x) × (result < 256) }
-{
-    x as usize
-}
-
-// uv of a byte, by a lent table.
-fn uv_at(t: &[u16; 256], x: u8) -> u16
-    requires { HoldsUv t.now }
-    ensures { result ≡ uv x }
-{
-    t[place(x)]
-}
-
 pub fn expand_uv(x: u8) -> u16
     ensures { result ≡ uv x }
 {
-    let t = table::uv_table();
-    uv_at(&t, x)
+    table::uv_table().uv(x)
 }
 
-pub fn put_pixel(d: &mut [u8], high: u8, low: u8, u: u8, v: u8, t: &[u16; 256])
-    requires { Six (length d.old) t.now }
+pub fn put_pixel(d: &mut [u8], high: u8, low: u8, u: u8, v: u8, t: &Table)
+    requires { length d.old ≡ 6 }
     ensures { d.new ≡ pixel high low u v }
 {
-    let a = uv_at(t, u);
-    let b = uv_at(t, v);
-    d[0] = low;
-    d[1] = high;
-    d[2] = (a % 256) as u8;
-    d[3] = (a / 256) as u8;
-    d[4] = (b % 256) as u8;
-    d[5] = (b / 256) as u8;
+    let [u_low, u_high] = t.uv(u).to_le_bytes();
+    let [v_low, v_high] = t.uv(v).to_le_bytes();
+    d.copy_from_slice(&[low, high, u_low, u_high, v_low, v_high]);
 }
 
 pub fn put_mono(pair: &mut [u8], high: u8, low: u8)
     requires { length pair.old ≡ 2 }
     ensures { pair.new ≡ mono_pixel high low }
 {
-    pair[0] = low;
-    pair[1] = high;
+    pair.copy_from_slice(&[low, high]);
 }
 
 // A pixel of the colour head as three numbers.
@@ -61,49 +42,24 @@ struct Samples {
 }
 
 // Those of pixel k.
-fn samples_at(lights: &[u16], us: &[u8], vs: &[u8], k: usize, t: &[u16; 256]) -> Samples
-    requires { HasPixel k (length lights.now) (length us.now) (length vs.now) t.now }
+fn samples_at(lights: &[u16], us: &[u8], vs: &[u8], k: usize, t: &Table) -> Samples
+    requires { HasPixel k (length lights.now) (length us.now) (length vs.now) }
     ensures { six result ≡ light_pixel lights.now us.now vs.now k }
 {
-    let u = uv_at(t, us[k]);
-    let v = uv_at(t, vs[k]);
     Samples {
         light: lights[k],
-        u,
-        v,
+        u: t.uv(us[k]),
+        v: t.uv(vs[k]),
     }
 }
 
-// The eight bytes of a number. It comes ready made: the compiler then makes one store of the eight, and eight of them where it sees
-// what they are made of.
-fn put_eight(d: &mut [u8], x: u64)
-    requires { length d.old ≡ 8 }
-    ensures { d.new ≡ eight_bytes x }
-{
-    d[0] = (x % 256) as u8;
-    d[1] = (x / 256 % 256) as u8;
-    d[2] = (x / 65536 % 256) as u8;
-    d[3] = (x / 16777216 % 256) as u8;
-    d[4] = (x / 4294967296 % 256) as u8;
-    d[5] = (x / 1099511627776 % 256) as u8;
-    d[6] = (x / 281474976710656 % 256) as u8;
-    d[7] = (x / 72057594037927936 % 256) as u8;
-}
-
-fn wide(x: u16) -> u64
-    ensures { (result ≡ x) × (result < 65536) }
-{
-    x as u64
-}
-
+// As the eight bytes of one number, which the compiler makes one store.
 fn put_samples(d: &mut [u8], a: u16, b: u16, c: u16, e: u16)
     requires { length d.old ≡ 8 }
     ensures { d.new ≡ four_samples a b c e }
 {
-    put_eight(
-        d,
-        wide(a) + wide(b) * 65536 + wide(c) * 4294967296 + wide(e) * 281474976710656,
-    );
+    let all = u64::from(a) + (u64::from(b) << 16) + (u64::from(c) << 32) + (u64::from(e) << 48);
+    d.copy_from_slice(&all.to_le_bytes());
 }
 
 // Four pixels: their twelve samples are three numbers of eight bytes.
@@ -117,8 +73,8 @@ fn put_twelve(d: &mut [u8], p: Samples, q: Samples, r: Samples, s: Samples)
 }
 
 // Four pixels, of which L is one number each.
-pub fn put_four(lights: &[u16], us: &[u8], vs: &[u8], t: &[u16; 256], d: &mut [u8])
-    requires { Four (length lights.now) (length us.now) (length vs.now) (length d.old) t.now }
+pub fn put_four(lights: &[u16], us: &[u8], vs: &[u8], t: &Table, d: &mut [u8])
+    requires { Four (length lights.now) (length us.now) (length vs.now) (length d.old) }
     ensures { d.new ≡ joined (light_pixel lights.now us.now vs.now) 0 4 }
 {
     let p = samples_at(lights, us, vs, 0, t);

@@ -1,5 +1,7 @@
-// uv at each of the 256 places of a table, and the one function that hands it out.
-ghost use Rattle.pixel.specs.Inner.{HoldsUv};
+// uv at each of the 256 places of a table.
+ghost use Rattle.std.specs.Prelude.{◌≡◌};
+ghost use Rattle.pixel.specs.Luv.{uv};
+ghost use Rattle.pixel.specs.Table.{HoldsUv};
 
 const UV: [u16; 256] = [
     39, 119, 199, 279, 359, 439, 519, 599, 679, 759, 839, 919, 999, 1078, 1158, 1238, 1318, 1398,
@@ -22,9 +24,22 @@ const UV: [u16; 256] = [
     19700, 19780, 19860, 19940, 20020, 20100, 20180, 20260, 20340, 20420,
 ];
 
-// To be asked for once a segment and lent to the loop over its pixels: what reads the constant itself may copy all of it at each call.
-pub fn uv_table() -> [u16; 256]
-    ensures { HoldsUv result }
-{
-    UV
+// A table of uv. To be asked for once a segment and lent to the loop over its pixels: what reads the constant itself may copy all of it at each call.
+#[derive(Drop)]
+pub struct Table {
+    pub entries: [u16; 256],
+    pub ghost holds: { HoldsUv entries },
+}
+
+pub fn uv_table() -> Table {
+    Table { entries: UV }
+}
+
+impl Table {
+    // uv of a byte.
+    pub fn uv(&self, x: u8) -> u16
+        ensures { result ≡ uv x }
+    {
+        self.entries[usize::from(x)]
+    }
 }

@@ -28,6 +28,10 @@ joined_same f g i j (suc m) e =
     joined_same f g (suc i) (suc j) m (λ k h. rw (suc-add i k, suc-add j k, ← add-suc i k, ← add-suc j k) (e (suc k) (omega arith))) in
     rw (z, t)
 
+-- the writer at the same place, said in other words
+pub at_place : (f : ℕ → List ℕ) (b n : ℕ) (old out : List ℕ) (r r' o o' : ℕ) → Joining f b n old out r o → r ≡ r' → o ≡ o' → Joining f b n old out r' o'
+at_place f b n old out r r' o o' s e p = rw (e, p) at s
+
 module _ (f : ℕ → List ℕ) (b n : ℕ) (even : Even f b n) where
   pub several_length : (i m : ℕ) → i + m ≤ n → length (joined f i m) ≡ m * b
   several_length i m h =

@@ -1,9 +1,8 @@
--- What only the code's own functions ask for and promise each other: planes for a row or a part of one, a table of uv, and just the room of its pixels.
+-- What only the code's own functions ask for and promise each other: planes for a row or a part of one, and just the room of its pixels.
 use Rattle.std.specs.Prelude.{ℕ, ◌+◌, ◌*◌, ◌/◌, ◌%◌, ◌<◌, ◌≤◌, ◌≡◌, List, get_or}
 use Rattle.lists.specs.Lists.{joined, overlay}
 use Rattle.head.specs.Heads.{Head, colour_head, planes_of, bytes_of}
 use Rattle.pixel.specs.Luv.{pixel, pixel_at}
-use Rattle.pixel.specs.Inner.{HoldsUv}
 
 -- planes of w bytes each, and a buffer for just n pixels
 pub record Convertible (head : Head) (w n planes out : ℕ) : Type 0 where
@@ -11,12 +10,11 @@ pub record Convertible (head : Head) (w n planes out : ℕ) : Type 0 where
   pub columns : n ≤ w
   pub exact : out ≡ bytes_of head * n
 
--- the same of n pixels of the colour head from the i-th on, with a table of uv
-pub record Within (w i n planes out : ℕ) (t : List ℕ) : Type 0 where
+-- the same of n pixels of the colour head from the i-th on
+pub record Within (w i n planes out : ℕ) : Type 0 where
   pub planes_in : 4 * w ≤ planes
   pub columns : i + n ≤ w
   pub exact : out ≡ 6 * n
-  pub table : HoldsUv t
 
 -- so many pixels are a block
 pub record Block (n : ℕ) : Type 0 where
@@ -34,21 +32,19 @@ pub record Lights (highs lows lights : List ℕ) (n : ℕ) : Type 0 where
   pub low : (k : ℕ) → k < n → get_or lights k 0 % 256 ≡ get_or lows k 0
 
 -- L, u and v of a multiple of four pixels
-pub record Fours (lights us vs out : ℕ) (t : List ℕ) : Type 0 where
+pub record Fours (lights us vs out : ℕ) : Type 0 where
   pub by_four : us % 4 ≡ 0
   pub light : us ≤ lights
   pub v : vs ≡ us
   pub exact : out ≡ 6 * us
-  pub table : HoldsUv t
 
 -- a block by its part of each plane
-pub record Apart (highs lows us vs out : ℕ) (t : List ℕ) : Type 0 where
+pub record Apart (highs lows us vs out : ℕ) : Type 0 where
   pub block : Block us
   pub high : highs ≡ us
   pub low : lows ≡ us
   pub v : vs ≡ us
   pub exact : out ≡ 6 * us
-  pub table : HoldsUv t
 
 -- pixel k of it
 unfoldable pub plane_pixel : List ℕ → List ℕ → List ℕ → List ℕ → ℕ → List ℕ

@@ -5,7 +5,7 @@ use Rattle.pixel_rows.proofs.block_at.Goals as goal
 
 pub put_block-requires : goal.put_block-requires
 put_block-requires c = let asked = c.requires in
-    parts_asked _ _ _ _ _ _ asked.0 asked.1 _ _ _ _ (search rules) (search rules) (search rules) (search rules)
+    parts_asked _ _ _ _ _ asked.0 asked.1 _ _ _ _ (search rules) (search rules) (search rules) (search rules)
 
 pub returns : goal.returns
 returns c = search parts_are

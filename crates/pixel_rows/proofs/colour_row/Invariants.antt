@@ -1,9 +1,6 @@
-use Prim.Native.Nat.{◌-◌}
+use Prim.Native.Nat.{◌*◌}
 use Rattle.pixel_rows.proofs.Rows.{Colours}
 use Rattle.pixel_rows.proofs.colour_row.Given as goal
 
-abbrev pub invariant-loop-k : goal.invariant-loop-k
-invariant-loop-k l = Colours l.w l.planes 0 l.n l.initial.out l.out l.k l.o
-
-abbrev pub decreases-loop-k : goal.decreases-loop-k
-decreases-loop-k l = l.n - l.k
+abbrev pub invariant-loop-b : goal.invariant-loop-b
+invariant-loop-b l = Colours l.w l.planes 0 l.n l.initial.out l.out (64 * l.b)

@@ -4,6 +4,6 @@ use Rattle.pixel.proofs.Holding.{holds_uv}
 use mathlib.Core.Path.{refl}
 use Rattle.pixel.proofs.table.uv_table.Goals as goal
 
-pub returns : goal.returns
+pub invariant_of-result : goal.invariant_of-result
 unfolding uv
-returns c = holds_uv _ tt refl
+invariant_of-result c = record { holds = holds_uv _ tt refl }
