@@ -2,9 +2,11 @@
 // that came as strips does. With OUT it writes the L plane as a picture.
 #![tactic(auto)]
 
-use receiver::Receiver;
-use report::arguments::Kind;
-use report::{arguments, load, say};
+use buffers::filled;
+use report::arguments::Target;
+use report::complain::{Complained, Complaints};
+use report::{arguments, load};
+use std::io;
 use std::rt::{Env, Files};
 use stream::Replayed;
 
@@ -20,47 +22,41 @@ mod messages;
 // A trace of any length.
 mod stream;
 
-// So many arguments there are with OUT, the program's own name among them.
-const WITH_OUT: usize = 3;
+// The longest name of a file, and the most blocks of a picture for which there is room.
+const NAME: usize = 4096;
 
-// The picture as far as it came. Without a start there is none.
-fn show(
-    rt: &(impl Print + Files),
-    errors: &impl Print,
-    out: &[u8],
-    kind: Kind,
-    receiver: Receiver,
-    file: &[u8],
-    map: &[u8],
-) {
-    if !receiver.started {
-        lines::put_no_picture(rt);
-        report::put_unwritten(rt, out, kind);
-        return;
-    }
-    // The buffers hold all of it, else its start was refused.
-    let n = records::least(receiver.length, file.len());
-    let m = records::least(seen::blocks_in(n), map.len());
-    lines::put_picture(rt, n, m);
-    report::show(rt, errors, b"replay", out, kind, &file[0..n], &map[0..m]);
+const BLOCKS: usize = 4096;
+
+// The program's own name, TRACE and OUT.
+const MOST_ARGUMENTS: usize = 3;
+
+fn tell(rt: &impl Print, name: &[u8], replayed: Replayed) -> io::Result<()> {
+    rt.write_all(name)?;
+    println!(rt)?;
+    lines::put_messages(rt, replayed.progress)?;
+    lines::put_end(rt, replayed)
 }
 
-fn tell(
+// The picture as far as it came. Without a start there is none. What standard output does not take is lost.
+fn show(
     rt: &(impl Print + Files),
-    errors: &impl Print,
-    name: &[u8],
-    out: &[u8],
-    kind: Kind,
+    complaints: &Complaints<impl Print>,
+    target: Option<Target>,
     replayed: Replayed,
     file: &[u8],
     map: &[u8],
-) {
-    let end = replayed.end;
-    let progress = replayed.progress;
-    say::line(rt, name);
-    lines::put_messages(rt, progress);
-    lines::put_end(rt, end, progress.messages, replayed.bytes);
-    show(rt, errors, out, kind, progress.receiver, file, map);
+) -> Result<(), Complained> {
+    let receiver = replayed.progress.receiver;
+    if !receiver.started {
+        let _ = println!(rt; "  picture   none, as no start was accepted");
+        let _ = report::lines::put_unwritten(rt, target);
+        return Ok(());
+    }
+    // The buffers hold all of it, else its start was refused.
+    let bytes = receiver.length.min(file.len());
+    let blocks = seen::blocks_in(bytes).min(map.len());
+    let _ = println!(rt; "  picture   {bytes} bytes in {blocks} blocks");
+    report::show(rt, complaints, target, &file[..bytes], &map[..blocks])
 }
 
 fn replay_file(
@@ -68,50 +64,55 @@ fn replay_file(
     name: &[u8],
     file: &mut [u8],
     map: &mut [u8],
-) -> std::io::Result<Replayed> {
+) -> io::Result<Replayed> {
     let mut source = load::open(rt, name)?;
     stream::replay(&mut source, file, map)
 }
 
 // The whole trace is replayed before anything is told of it.
-fn run(rt: &(impl Print + Files), errors: &impl Print, name: &[u8], out: &[u8], kind: Kind) {
-    let mut file = report::new_room();
-    let mut map = io::buffer();
-    match replay_file(rt, name, &mut file, &mut map) {
-        Ok(replayed) => tell(rt, errors, name, out, kind, replayed, &file, &map),
-        Err(error) => complain::unread(errors, name, &error),
-    }
+fn run(
+    rt: &(impl Print + Files),
+    complaints: &Complaints<impl Print>,
+    name: &[u8],
+    target: Option<Target>,
+) -> Result<(), Complained> {
+    let mut file = filled::<{ report::MOST }>(0);
+    let mut map = filled::<BLOCKS>(0);
+    let replayed = replay_file(rt, name, &mut file, &mut map).map_err(|error| complaints.failed(
+        "cannot read the trace",
+        name,
+        &error,
+    ))?;
+    let _ = tell(rt, name, replayed);
+    show(rt, complaints, target, replayed, &file, &map)
 }
 
 // Where it is not clear what to write, nothing is read.
-fn run_for(rt: &(impl Print + Files), errors: &impl Print, name: &[u8], out: &[u8], given: usize) {
-    let kind = arguments::kind_of(WITH_OUT <= given, out);
-    match kind {
-        Kind::Unknown => report::complain::ending(errors, b"replay", out),
-        _ => run(rt, errors, name, out, kind),
-    }
-}
-
-fn start(rt: &(impl Print + Files + Env), errors: &impl Print, given: usize) {
-    let mut name = io::buffer();
-    let mut out = io::buffer();
-    let first = arguments::argument(rt, errors, b"replay", 1, &mut name);
-    let second = arguments::argument(rt, errors, b"replay", 2, &mut out);
-    let n = first.size;
-    let o = second.size;
-    if first.good && second.good {
-        run_for(rt, errors, &name[..n], &out[..o], given);
-    }
+fn start(
+    rt: &(impl Print + Files + Env),
+    complaints: &Complaints<impl Print>,
+) -> Result<(), Complained> {
+    let mut name = filled::<NAME>(0);
+    let mut out = filled::<NAME>(0);
+    let name = arguments::argument(rt, complaints, 1, &mut name);
+    let out = arguments::argument(rt, complaints, 2, &mut out);
+    // Each of them is complained of that is too long.
+    let (name, out) = (name?, out?);
+    let Some(name) = name else {
+        return Err(complain::usage(complaints));
+    };
+    run(rt, complaints, name, arguments::target_of(complaints, out)?)
 }
 
 fn main(rt: HostRuntime) {
-    let errors = rt.stderr();
+    let complaints = Complaints {
+        errors: rt.stderr(),
+        program: "replay",
+    };
     let given = arguments::count(&rt);
-    if given < 2 {
-        complain::usage(&errors);
-    } else if WITH_OUT < given {
-        complain::too_many(&errors, given - 1);
+    let _ = if MOST_ARGUMENTS < given {
+        Err(complain::too_many(&complaints, given - 1))
     } else {
-        start(&rt, &errors, given);
-    }
+        start(&rt, &complaints)
+    };
 }

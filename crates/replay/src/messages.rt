@@ -3,11 +3,11 @@ ghost use Rattle.std.specs.Prelude.{◌≡◌, ◌≤◌, length};
 ghost use Rattle.receiver.specs.Receiver.{lent, Replays};
 ghost use Rattle.replay.specs.Stops.{ending_of};
 
-use checks::Verdict;
+use checks::{NO_SUCH_BLOCK, RECEIVER_TOO_SMALL, Verdict};
 use receiver::{Received, Receiver};
 use trace::Next;
 
-// The receiver, how many messages it was given, and how many of them it answered with 0, 10, 11 and 12.
+// The receiver, how many messages it was given, and how many of them it answered with 0, 10, 11 and 12, as far as can be counted.
 #[derive(Clone, Copy)]
 pub struct Progress {
     pub receiver: Receiver,
@@ -19,7 +19,7 @@ pub struct Progress {
 }
 
 // Why no further message was taken: the bytes are over, they end within it, or it begins with a byte that begins none.
-#[derive(Clone, Copy)]
+#[derive(Clone, Copy, Debug, PartialEq, Eq)]
 pub enum Stop {
     Over,
     Cut,
@@ -34,45 +34,37 @@ pub struct Taken {
     pub progress: Progress,
 }
 
-pub fn none_yet() -> Progress {
-    Progress {
-        receiver: receiver::idle(),
-        messages: 0,
-        accepted: 0,
-        too_long: 0,
-        outside: 0,
-        wrong_size: 0,
+impl Progress {
+    pub fn none_yet() -> Self {
+        Progress {
+            receiver: receiver::idle(),
+            messages: 0,
+            accepted: 0,
+            too_long: 0,
+            outside: 0,
+            wrong_size: 0,
+        }
     }
-}
 
-// One more, as far as can be counted.
-pub fn more(n: usize) -> usize {
-    if n < usize::MAX { n + 1 } else { n }
-}
-
-fn number_of(answer: Verdict) -> u8 {
-    match answer {
-        Verdict::Fine => 0,
-        Verdict::Refused(number) => number,
+    // The progress after one more answer.
+    fn after(self, received: Received) -> Self
+        ensures { result.receiver ≡ received.receiver }
+    {
+        let mut after = Progress {
+            receiver: received.receiver,
+            messages: self.messages.saturating_add(1),
+            ..self
+        };
+        match received.answer {
+            Verdict::Fine => after.accepted = after.accepted.saturating_add(1),
+            Verdict::Refused(RECEIVER_TOO_SMALL) => {
+                after.too_long = after.too_long.saturating_add(1)
+            }
+            Verdict::Refused(NO_SUCH_BLOCK) => after.outside = after.outside.saturating_add(1),
+            Verdict::Refused(_) => after.wrong_size = after.wrong_size.saturating_add(1),
+        }
+        after
     }
-}
-
-// The progress after an answer.
-fn counted(progress: Progress, received: Received) -> Progress
-    ensures { result.receiver ≡ received.receiver }
-{
-    let answer = received.answer;
-    let receiver = received.receiver;
-    let mut after = progress;
-    after.receiver = receiver;
-    after.messages = more(after.messages);
-    match number_of(answer) {
-        0 => after.accepted = more(after.accepted),
-        10 => after.too_long = more(after.too_long),
-        11 => after.outside = more(after.outside),
-        _ => after.wrong_size = more(after.wrong_size),
-    }
-    after
 }
 
 // Message after message, until no whole one is left.
@@ -88,14 +80,14 @@ pub fn take(bytes: &[u8], file: &mut [u8], map: &mut [u8], progress: Progress) -
         match trace::first(&bytes[at..]) {
             Next::Start(length) => {
                 let received = receiver::start(file, map, after.receiver, length);
-                after = counted(after, received);
+                after = after.after(received);
                 at += 9;
             }
             Next::Block(number, size) => {
                 let from = at + 11;
                 let to = from + size;
                 let received = receiver::block(file, map, after.receiver, number, &bytes[from..to]);
-                after = counted(after, received);
+                after = after.after(received);
                 at = to;
             }
             Next::Over => return Taken {

@@ -5,47 +5,29 @@ ghost use Rattle.lists.specs.Lists.{overlay};
 
 use crate::messages;
 use crate::messages::{Progress, Stop};
-use report::load;
+use buffers::{filled, read_full};
 use std::io;
 use std::io::Read;
 
 // Longer than the longest message, which has 11 + 65535 bytes.
 const WINDOW: usize = 131072;
 
-// Where the trace ends: where no further message can be taken, or farther on than it was taken.
-#[derive(Clone, Copy)]
-pub enum End {
-    At(Stop),
-    Farther,
-}
-
-// Where the trace ends, how many bytes the messages have that were taken, and what came of them.
+// Why the trace ends where it does, or none where it goes on farther than it was taken; how many bytes the messages have that were
+// taken, and what came of them.
 #[derive(Clone, Copy)]
 pub struct Replayed {
-    pub end: End,
+    pub stop: Option<Stop>,
     pub bytes: usize,
     pub progress: Progress,
 }
 
-// The contract gives the length, which lending the array as a slice needs.
-fn new_window() -> [u8; WINDOW]
-    ensures { 131072 ≡ length result }
-{
-    [0; WINDOW]
-}
-
 // The bytes from a place on, moved to the front.
-#[tactic(auto, using(crate::proofs::Moving::moving))]
+#[tactic(auto, using(crate::proofs::Moving::moved))]
 fn move_up(window: &mut [u8], start: usize)
+    requires { start ≤ length window.old }
     ensures { window.new ≡ overlay (drop start window.old) window.old }
 {
-    let mut to: usize = 0;
-    let mut from = start;
-    while from < window.len() {
-        window[to] = window[from];
-        to += 1;
-        from += 1;
-    }
+    window.copy_within(start.., 0);
 }
 
 // The window filled behind the bytes that it keeps, and how many it has then.
@@ -53,7 +35,7 @@ fn fill(window: &mut [u8], kept: usize, source: &mut impl Read) -> io::Result<us
     requires { kept ≤ length window.old }
     ensures { ReadsAtMost result window.new }
 {
-    let more = load::read_pieces(source, &mut window[kept..])?;
+    let more = read_full(source, &mut window[kept..])?;
     Ok(kept + more)
 }
 
@@ -65,35 +47,32 @@ fn replay_in(
     file: &mut [u8],
     map: &mut [u8],
 ) -> io::Result<Replayed> {
-    let mut bytes: usize = 0;
-    let mut progress = messages::none_yet();
-    let mut kept: usize = 0;
+    let mut bytes = 0;
+    let mut progress = Progress::none_yet();
+    let mut kept = 0;
     while bytes <= usize::MAX - window.len() {
         let n = fill(window, kept, source)?;
         let taken = messages::take(&window[..n], file, map, progress);
-        let size = taken.size;
-        let after = taken.progress;
-        bytes += size;
-        progress = after;
-        if size == 0 {
-            let stop = taken.stop;
+        bytes += taken.size;
+        progress = taken.progress;
+        if taken.size == 0 {
             return Ok(Replayed {
-                end: End::At(stop),
-                bytes: bytes,
-                progress: progress,
+                stop: Some(taken.stop),
+                bytes,
+                progress,
             });
         }
-        move_up(window, size);
-        kept = n - size;
+        move_up(window, taken.size);
+        kept = n - taken.size;
     }
     Ok(Replayed {
-        end: End::Farther,
-        bytes: bytes,
-        progress: progress,
+        stop: None,
+        bytes,
+        progress,
     })
 }
 
 pub fn replay(source: &mut impl Read, file: &mut [u8], map: &mut [u8]) -> io::Result<Replayed> {
-    let mut window = new_window();
+    let mut window = filled::<WINDOW>(0);
     replay_in(&mut window, source, file, map)
 }

@@ -1,3 +1,2 @@
 pub mod ColourFile
-pub mod Lengths
 pub mod PixelBytes

@@ -1,79 +1,81 @@
 // The names that a program is given, and what it is to write by the ending of one.
-ghost use Rattle.io.specs.Counts.{IsPrefixLen};
+ghost use Rattle.std.specs.Prelude.{◌≤◌, IfOk, IfSome, length};
 
-use crate::complain;
-use crate::load::Loaded;
+use crate::complain::{Complained, Complaints};
 use std::env::FillError;
+use std::fmt;
 use std::rt::Env;
 
-// What is to be written.
-#[derive(Clone, Copy)]
+// A kind of file that a picture is written as.
+#[derive(Clone, Copy, Debug, PartialEq, Eq)]
 pub enum Kind {
-    Nothing,
     Pgm,
     Png,
-    Unknown,
+}
+
+impl fmt::Display for Kind {
+    fn fmt<W: fmt::Write>(&self, f: &mut fmt::Formatter<W>) -> fmt::Result {
+        f.write_str(match self {
+            Kind::Pgm => "PGM",
+            Kind::Png => "PNG",
+        })
+    }
+}
+
+// The file that is to be written.
+#[derive(Clone, Copy)]
+pub struct Target<'a> {
+    pub name: &'a [u8],
+    pub kind: Kind,
+}
+
+impl<'a> Target<'a> {
+    // By the ending of its name.
+    pub fn of(name: &'a [u8]) -> Option<Self> {
+        if name.ends_with(b".png") {
+            Some(Target {
+                name,
+                kind: Kind::Png,
+            })
+        } else if name.ends_with(b".pgm") {
+            Some(Target {
+                name,
+                kind: Kind::Pgm,
+            })
+        } else {
+            None
+        }
+    }
 }
 
 // How many arguments there are, the program's own name among them.
 pub fn count(rt: &impl Env) -> usize {
-    let mut n = 0;
-    for i in 0..usize::MAX {
-        if let Err(FillError::NotPresent) = rt.arg(i, &mut []) {
-            break;
-        }
-        n = i + 1;
-    }
-    n
+    (0..usize::MAX)
+        .position(|i| matches!(rt.arg(i, &mut []), Err(FillError::NotPresent)))
+        .unwrap_or(usize::MAX)
 }
 
-// An argument at the start of the buffer. One that is not there is empty; one that is too long is complained of.
-pub fn argument(
+// An argument, at the start of the buffer, or none where there is none. One that is too long is complained of.
+pub fn argument<'a>(
     rt: &impl Env,
-    errors: &impl Print,
-    program: &[u8],
+    complaints: &Complaints<impl Print>,
     i: usize,
-    name: &mut [u8],
-) -> Loaded
-    ensures { IsPrefixLen result.size name.new }
+    buffer: &'a mut [u8],
+) -> Result<Option<&'a [u8]>, Complained>
+    ensures { IfOk result (λ given. IfSome given (λ name. length name.now ≤ length buffer.old)) }
 {
-    match rt.arg(i, name) {
-        Ok(n) => Loaded {
-            good: true,
-            size: n,
-        },
-        Err(FillError::NotPresent) => Loaded {
-            good: true,
-            size: 0,
-        },
-        Err(FillError::TooLong) => {
-            complain::long_name(errors, program, i);
-            Loaded {
-                good: false,
-                size: 0,
-            }
-        }
+    match rt.arg(i, buffer) {
+        Ok(n) => Ok(Some(&buffer[..n])),
+        Err(FillError::NotPresent) => Ok(None),
+        Err(FillError::TooLong) => Err(complaints.long_name(i)),
     }
 }
 
-fn ends_in(name: &[u8], a: u8, b: u8, c: u8) -> bool {
-    let n = name.len();
-    if n < 4 {
-        return false;
-    }
-    name[n - 4] == b'.' && name[n - 3] == a && name[n - 2] == b && name[n - 1] == c
-}
-
-// By the ending of the name, if one is given.
-pub fn kind_of(given: bool, out: &[u8]) -> Kind {
-    if !given {
-        return Kind::Nothing;
-    }
-    if ends_in(out, b'p', b'n', b'g') {
-        return Kind::Png;
-    }
-    if ends_in(out, b'p', b'g', b'm') {
-        return Kind::Pgm;
-    }
-    Kind::Unknown
+// The file that is to be written, if a name is given. One with another ending is complained of.
+pub fn target_of<'a>(
+    complaints: &Complaints<impl Print>,
+    name: Option<&'a [u8]>,
+) -> Result<Option<Target<'a>>, Complained> {
+    name.map(|name| Target::of(name).ok_or_else(|| complaints.ending(name)))
+        .transpose()
 }

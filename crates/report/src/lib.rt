@@ -2,12 +2,15 @@
 // written as a file.
 #![tactic(auto)]
 
-ghost use Rattle.std.specs.Prelude.{◌≡◌, length};
+ghost use Rattle.std.specs.Prelude.{◌≡◌};
 ghost use Rattle.report.specs.Pixels.{bytes_for};
 
-use arguments::Kind;
+use arguments::{Kind, Target};
+use buffers::filled;
+use complain::{Complained, Complaints};
 use header::Limits;
 use patchy::{Reading, Sizes};
+use std::io;
 use std::rt::Files;
 
 // The names that a program is given.
@@ -17,13 +20,10 @@ pub mod arguments;
 pub mod complain;
 
 // What came of a reading.
-mod lines;
+pub mod lines;
 
 // A file's bytes.
 pub mod load;
-
-// The grey picture's file.
-mod pgm_file;
 
 // The picture with colours.
 mod png_file;
@@ -34,21 +34,11 @@ mod refusal;
 // A file that is written.
 mod save;
 
-// Text and numbers.
-pub mod say;
-
 // The most bytes of a picture's file, of the picture and of scratch.
 pub const MOST: usize = 2097152;
 
 // As many as there are quality bytes.
 const SEGMENTS: usize = 65536;
-
-// Room for any of the three. The contract gives its length, which lending it as a slice needs.
-pub fn new_room() -> [u8; MOST]
-    ensures { 2097152 ≡ length result }
-{
-    [0; MOST]
-}
 
 fn limits() -> Limits {
     Limits {
@@ -62,69 +52,97 @@ fn limits() -> Limits {
 }
 
 // The bytes of a pixel: two for L, and in a colour picture two more for each of u and v.
+#[tactic(auto, using(crate::proofs::PixelBytes::two_bytes, crate::proofs::PixelBytes::six_bytes))]
 fn bytes_a_pixel(channels: usize) -> usize
     ensures { result ≡ bytes_for channels }
 {
     if channels == 1 { 2 } else { 6 }
 }
 
-// That nothing is written, where something was to be.
-pub fn put_unwritten(rt: &impl Print, out: &[u8], kind: Kind) {
-    match kind {
-        Kind::Nothing => {}
-        _ => lines::put_unwritten(rt, out),
-    }
-}
-
 // The blocks, the refusal and the charge. There is nothing to write then.
-fn report_refusal(rt: &impl Print, out: &[u8], kind: Kind, map: &[u8], number: u8, left: usize) {
-    lines::put_blocks(rt, map);
-    refusal::put(rt, number, limits());
-    lines::put_charge(rt, left);
-    put_unwritten(rt, out, kind);
+fn report_refusal(
+    rt: &impl Print,
+    target: Option<Target>,
+    map: &[u8],
+    number: u8,
+    left: usize,
+) -> io::Result<()> {
+    lines::put_blocks(rt, map)?;
+    refusal::put(rt, number, limits())?;
+    lines::put_charge(rt, left)?;
+    lines::put_unwritten(rt, target)
 }
 
 // The sizes, the blocks, the quality of each segment, what to mind there, and the charge.
-fn report_picture(rt: &impl Print, map: &[u8], sizes: Sizes, quality: &[u8], left: usize) {
-    let n = records::least(sizes.segments, quality.len());
-    lines::put_sizes(rt, sizes);
-    lines::put_blocks(rt, map);
-    lines::put_quality(rt, &quality[0..n]);
-    lines::put_caution(rt, sizes);
-    lines::put_charge(rt, left);
+fn report_picture(
+    rt: &impl Print,
+    map: &[u8],
+    sizes: Sizes,
+    quality: &[u8],
+    left: usize,
+) -> io::Result<()> {
+    let n = sizes.segments.min(quality.len());
+    lines::put_sizes(rt, sizes)?;
+    lines::put_blocks(rt, map)?;
+    lines::put_quality(rt, &quality[..n])?;
+    lines::put_caution(rt, sizes)?;
+    lines::put_charge(rt, left)
+}
+
+// The bytes of the file, in the place of the picture or in scratch; none where there is no room for them.
+fn file_of<'a>(
+    kind: Kind,
+    sizes: Sizes,
+    quality: &[u8],
+    picture: &'a mut [u8],
+    scratch: &'a mut [u8],
+) -> &'a [u8] {
+    match kind {
+        Kind::Png => {
+            let n = png_file::put_file(sizes, quality, picture, scratch);
+            &picture[..n]
+        }
+        Kind::Pgm => {
+            let size = bytes_a_pixel(sizes.channels);
+            let n = pgm::put(size, picture, sizes.width, sizes.height, scratch);
+            &scratch[..n]
+        }
+    }
 }
 
 fn write_picture(
     rt: &(impl Print + Files),
-    errors: &impl Print,
-    program: &[u8],
-    out: &[u8],
-    kind: Kind,
+    complaints: &Complaints<impl Print>,
+    target: Target,
     sizes: Sizes,
     quality: &[u8],
     picture: &mut [u8],
     scratch: &mut [u8],
-) {
-    match kind {
-        Kind::Pgm => pgm_file::write(rt, errors, program, out, picture, sizes, scratch),
-        Kind::Png => png_file::write(rt, errors, program, out, quality, sizes, picture, scratch),
-        _ => {}
+) -> Result<(), Complained> {
+    let kind = target.kind;
+    let file = file_of(kind, sizes, quality, picture, scratch);
+    if file.is_empty() {
+        return Err(complaints.about(
+            "cannot write",
+            target.name,
+            format_args!(": there is no room here for so large a {kind} file"),
+        ));
     }
+    save::save(rt, complaints, target, sizes, file)
 }
 
-// Reads the picture, reports what came of it, and writes it where that is asked for.
+// Reads the picture, reports what came of it, and writes it where that is asked for. What standard output does not take of the report
+// is lost.
 pub fn show(
     rt: &(impl Print + Files),
-    errors: &impl Print,
-    program: &[u8],
-    out: &[u8],
-    kind: Kind,
+    complaints: &Complaints<impl Print>,
+    target: Option<Target>,
     file: &[u8],
     map: &[u8],
-) {
-    let mut output = new_room();
-    let mut scratch = new_room();
-    let mut quality = io::large_buffer();
+) -> Result<(), Complained> {
+    let mut output = filled::<MOST>(0);
+    let mut scratch = filled::<MOST>(0);
+    let mut quality = filled::<SEGMENTS>(0);
     match patchy::read(
         file,
         map,
@@ -135,20 +153,24 @@ pub fn show(
         &mut scratch,
         &mut quality,
     ) {
-        Reading::Refused(number, left) => report_refusal(rt, out, kind, map, number, left),
+        Reading::Refused(number, left) => {
+            let _ = report_refusal(rt, target, map, number, left);
+            Ok(())
+        }
         Reading::Picture(sizes, left) => {
-            report_picture(rt, map, sizes, &quality, left);
-            write_picture(
-                rt,
-                errors,
-                program,
-                out,
-                kind,
-                sizes,
-                &quality,
-                &mut output,
-                &mut scratch,
-            );
+            let _ = report_picture(rt, map, sizes, &quality, left);
+            match target {
+                Some(target) => write_picture(
+                    rt,
+                    complaints,
+                    target,
+                    sizes,
+                    &quality,
+                    &mut output,
+                    &mut scratch,
+                ),
+                None => Ok(()),
+            }
         }
     }
 }

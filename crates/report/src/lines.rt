@@ -1,80 +1,96 @@
 // What came of a reading, for a person to take in at a glance.
-use crate::say;
+use crate::arguments::Target;
+use buffers::filled;
 use patchy::Sizes;
+use std::io;
 use summary::marks;
 
-pub fn put_sizes(rt: &impl Print, sizes: Sizes) {
-    say::number(rt, b"  pixels    ", sizes.width);
-    say::number(rt, b" x ", sizes.height);
-    if sizes.channels == 1 {
-        say::text(rt, b", monochrome");
-    }
-    say::number(rt, b"\n  segments  ", sizes.segments);
-    say::number(rt, b", each at most ", sizes.block_width);
-    say::number(rt, b" x ", sizes.block_height);
-    say::text(rt, b"\n");
+// Room for a line of marks.
+const LINE: usize = 80;
+
+pub fn put_sizes(rt: &impl Print, sizes: Sizes) -> io::Result<()> {
+    let head = if sizes.channels == 1 {
+        ", monochrome"
+    } else {
+        ""
+    };
+    println!(rt; "  pixels    {} x {}{head}", sizes.width, sizes.height)?;
+    print!(rt; "  segments  {}", sizes.segments)?;
+    println!(rt;
+        ", each at most {} x {}",
+        sizes.block_width, sizes.block_height
+    )
 }
 
-pub fn put_blocks(rt: &impl Print, map: &[u8]) {
-    say::number(rt, b"  blocks    ", map.len());
-    say::number(rt, b", of which ", map.len() - marks::tally(map, 1));
-    say::text(rt, b" did not come\n");
+pub fn put_blocks(rt: &impl Print, map: &[u8]) -> io::Result<()> {
+    let blocks = map.len();
+    let lost = blocks - marks::tally(map, 1);
+    println!(rt; "  blocks    {blocks}, of which {lost} did not come")
+}
+
+// A number of up to five digits in the place of a label, and what it counts.
+pub fn put_count(rt: &impl Print, n: usize, meaning: &str) -> io::Result<()> {
+    println!(rt; "    {n:>5}   {meaning}")
 }
 
 // One line of marks, with the number of its first segment where that is not 0.
-fn put_row(rt: &impl Print, first: usize, codes: &[u8], line: &mut [u8]) {
-    let n = records::least(marks::line_length(codes), line.len());
-    marks::put_line(codes, &mut line[0..n]);
+fn put_row(rt: &impl Print, first: usize, codes: &[u8], line: &mut [u8]) -> io::Result<()> {
+    let n = marks::line_length(codes).min(line.len());
+    marks::put_line(codes, &mut line[..n]);
     if first == 0 {
-        say::text(rt, b"  quality   ");
+        print!(rt; "  quality   ")?;
     } else {
-        say::column(rt, first);
+        print!(rt; "    {first:>5}   ")?;
     }
-    say::text(rt, &line[0..n]);
-    say::text(rt, b"\n");
+    rt.write_all(&line[..n])?;
+    println!(rt)
 }
 
-fn put_rows(rt: &impl Print, codes: &[u8], line: &mut [u8]) {
-    let mut at: usize = 0;
+// A line's end is where `marks::line_end` says, so the place moves on by that and not by one.
+fn put_rows(rt: &impl Print, codes: &[u8], line: &mut [u8]) -> io::Result<()> {
+    let mut at = 0;
     while at < codes.len() {
         let end = marks::line_end(at, codes.len());
-        put_row(rt, at, &codes[at..end], line);
+        put_row(rt, at, &codes[at..end], line)?;
         at = end;
     }
+    Ok(())
 }
 
-fn put_tally(rt: &impl Print, codes: &[u8], code: u8, meaning: &[u8]) {
-    say::column(rt, marks::tally(codes, code));
-    say::text(rt, meaning);
-}
-
-pub fn put_quality(rt: &impl Print, codes: &[u8]) {
-    let mut line = io::buffer();
-    put_rows(rt, codes, &mut line);
-    put_tally(rt, codes, 1, b"good (1, a dot)\n");
-    put_tally(rt, codes, 2, b"did not come (2)\n");
-    put_tally(rt, codes, 3, b"outside the file (3)\n");
-    put_tally(rt, codes, 4, b"packets not accepted (4)\n");
+pub fn put_quality(rt: &impl Print, codes: &[u8]) -> io::Result<()> {
+    put_rows(rt, codes, &mut filled::<LINE>(0))?;
+    for (code, meaning) in [
+        (1, "good (1, a dot)"),
+        (2, "did not come (2)"),
+        (3, "outside the file (3)"),
+        (4, "packets not accepted (4)"),
+    ] {
+        put_count(rt, marks::tally(codes, code), meaning)?;
+    }
+    Ok(())
 }
 
 // In a colour picture no pixel of a good segment is all zeros (rule 6.7).
-pub fn put_caution(rt: &impl Print, sizes: Sizes) {
+pub fn put_caution(rt: &impl Print, sizes: Sizes) -> io::Result<()> {
     if sizes.channels == 1 {
-        say::text(
-            rt,
-            b"            two zero bytes can be a pixel here: the quality alone tells what is good\n",
-        );
+        println!(rt;
+            "            two zero bytes can be a pixel here: the quality alone tells what is good"
+        )?;
     }
+    Ok(())
 }
 
 // What is gone of all the units that there are.
-pub fn put_charge(rt: &impl Print, left: usize) {
-    say::number(rt, b"  charged   ", usize::MAX - left);
-    say::text(rt, b" units\n");
+pub fn put_charge(rt: &impl Print, left: usize) -> io::Result<()> {
+    println!(rt; "  charged   {} units", usize::MAX - left)
 }
 
-pub fn put_unwritten(rt: &impl Print, name: &[u8]) {
-    say::text(rt, b"  written   nothing to ");
-    say::text(rt, name);
-    say::text(rt, b", as there is no picture\n");
+// That nothing is written, where something was to be.
+pub fn put_unwritten(rt: &impl Print, target: Option<Target>) -> io::Result<()> {
+    if let Some(target) = target {
+        print!(rt; "  written   nothing to ")?;
+        rt.write_all(target.name)?;
+        println!(rt; ", as there is no picture")?;
+    }
+    Ok(())
 }

@@ -1,7 +1,9 @@
 // A file's bytes written, and what was written told.
+use crate::arguments::Target;
+use crate::complain::{Complained, Complaints};
 use crate::load::path_of;
-use crate::{complain, say};
 use patchy::Sizes;
+use records::crc::crc32;
 use std::fs::File;
 use std::io;
 use std::io::Write;
@@ -13,54 +15,33 @@ fn create<R: Files>(rt: &R, name: &[u8]) -> io::Result<R::File> {
 
 fn write_file(
     rt: &impl Files,
-    errors: &impl Print,
-    program: &[u8],
+    complaints: &Complaints<impl Print>,
     name: &[u8],
     file: &[u8],
-) -> bool {
-    match create(rt, name) {
-        Ok(mut opened) => match opened.write_all(file) {
-            Ok(()) => true,
-            Err(error) => {
-                complain::failed(
-                    errors,
-                    program,
-                    b"cannot write the whole of '",
-                    name,
-                    &error,
-                );
-                false
-            }
-        },
-        Err(error) => {
-            complain::failed(errors, program, b"cannot write '", name, &error);
-            false
-        }
-    }
+) -> Result<(), Complained> {
+    create(rt, name)
+        .map_err(|error| complaints.failed("cannot write", name, &error))?
+        .write_all(file)
+        .map_err(|error| complaints.failed("cannot write the whole of", name, &error))
 }
 
-fn tell(rt: &impl Print, name: &[u8], kind: &[u8], sizes: Sizes, file: &[u8]) {
-    say::text(rt, b"  written   ");
-    say::text(rt, name);
-    say::number(rt, kind, sizes.width);
-    say::number(rt, b" x ", sizes.height);
-    say::number(rt, b", ", file.len());
-    say::text(rt, b" bytes, CRC-32 ");
-    say::sum(rt, file);
-    say::text(rt, b"\n");
+fn tell(rt: &impl Print, target: Target, sizes: Sizes, file: &[u8]) -> io::Result<()> {
+    let kind = target.kind;
+    print!(rt; "  written   ")?;
+    rt.write_all(target.name)?;
+    print!(rt; ": {kind}, {} x {}", sizes.width, sizes.height)?;
+    println!(rt; ", {} bytes, CRC-32 {:08x}", file.len(), crc32(file))
 }
 
 // A file that cannot be written is complained of.
 pub fn save(
     rt: &(impl Print + Files),
-    errors: &impl Print,
-    program: &[u8],
-    name: &[u8],
-    kind: &[u8],
+    complaints: &Complaints<impl Print>,
+    target: Target,
     sizes: Sizes,
     file: &[u8],
-) {
-    if write_file(rt, errors, program, name, file) {
-        tell(rt, name, kind, sizes, file);
-    }
+) -> Result<(), Complained> {
+    write_file(rt, complaints, target.name, file)?;
+    let _ = tell(rt, target, sizes, file);
+    Ok(())
 }

@@ -1,43 +1,45 @@
 // What went wrong, one line each on standard error, as far as it is this program's own.
-use report::complain::{number, text};
+use report::complain::{Complained, Complaints};
 
-pub fn usage(errors: &impl Print) {
-    text(
-        errors,
-        b"usage: strips FILE [MAP [OUT]]\n  FILE  a LogLuv TIFF picture, in colour or monochrome\n",
-    );
-    text(
-        errors,
-        b"  MAP   its delivery map, a byte for each block of 512 bytes, 1 where the block came; without it the picture came whole\n",
-    );
-    text(
-        errors,
-        b"  OUT   where to write L as a picture: NAME.png in grey, and in red, blue or yellow what is not good; NAME.pgm in grey alone\n",
-    );
+const USAGE: &str = "\
+usage: strips FILE [MAP [OUT]]
+  FILE  a LogLuv TIFF picture, in colour or monochrome
+  MAP   its delivery map, a byte for each block of 512 bytes, 1 where the block came; without it the picture came whole
+  OUT   where to write L as a picture: NAME.png in grey, and in red, blue or yellow what is not good; NAME.pgm in grey alone
+";
+
+pub fn usage(complaints: &Complaints<impl Print>) -> Complained {
+    complaints.usage(USAGE)
 }
 
-pub fn too_many(errors: &impl Print, given: usize) {
-    number(
-        errors,
-        b"strips: at most three names are taken, FILE, MAP and OUT, and here are ",
-        given,
-    );
-    text(errors, b"\n");
+pub fn too_many(complaints: &Complaints<impl Print>, given: usize) -> Complained {
+    complaints.line(format_args!(
+        "at most three names are taken, FILE, MAP and OUT, and here are {given}"
+    ))
 }
 
-pub fn too_large(errors: &impl Print, name: &[u8], most: usize) {
-    text(errors, b"strips: picture '");
-    text(errors, name);
-    number(errors, b"' has more than ", most);
-    text(errors, b" bytes, the most that is read here\n");
+pub fn too_large(complaints: &Complaints<impl Print>, name: &[u8], most: usize) -> Complained {
+    complaints.about(
+        "picture",
+        name,
+        format_args!(" has more than {most} bytes, the most that is read here"),
+    )
 }
 
 // A map that filled its buffer may be longer than that.
-pub fn wrong_length(errors: &impl Print, name: &[u8], more: &[u8], length: usize, wanted: usize) {
-    text(errors, b"strips: map '");
-    text(errors, name);
-    text(errors, b"' has ");
-    number(errors, more, length);
-    number(errors, b" bytes, and must have ", wanted);
-    text(errors, b", one for each block of the picture\n");
+pub fn wrong_length(
+    complaints: &Complaints<impl Print>,
+    name: &[u8],
+    length: usize,
+    most: usize,
+    wanted: usize,
+) -> Complained {
+    let at_least = if length == most { "at least " } else { "" };
+    complaints.about(
+        "map",
+        name,
+        format_args!(
+            " has {at_least}{length} bytes, and must have {wanted}, one for each block of the picture"
+        ),
+    )
 }

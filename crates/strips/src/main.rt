@@ -2,12 +2,12 @@
 // writes the L plane as a picture, by the ending of OUT in grey or with a colour for each segment that is not good.
 #![tactic(auto)]
 
-ghost use Rattle.std.specs.Prelude.{◌≡◌, length};
-ghost use Rattle.io.specs.Counts.{IsPrefixLen};
+ghost use Rattle.std.specs.Prelude.{◌≤◌, IfOk, length};
 
-use report::arguments::Kind;
-use report::load::Loaded;
-use report::{arguments, load, say};
+use buffers::filled;
+use report::arguments::Target;
+use report::complain::{Complained, Complaints};
+use report::{arguments, load};
 use std::rt::{Env, Files};
 
 // What went wrong.
@@ -18,134 +18,91 @@ const FILE: usize = 2097153;
 
 const MAP: usize = 4097;
 
-// So many arguments there are with MAP and with OUT, the program's own name among them.
-const WITH_MAP: usize = 3;
+// The longest name of a file.
+const NAME: usize = 4096;
 
-const WITH_OUT: usize = 4;
-
-// Each contract of these two gives the length, which lending the array as a slice needs.
-fn new_file() -> [u8; FILE]
-    ensures { 2097153 ≡ length result }
-{
-    [0; FILE]
-}
-
-// Every block came, as far as no map says otherwise.
-fn new_map() -> [u8; MAP]
-    ensures { 4097 ≡ length result }
-{
-    [1; MAP]
-}
+// The program's own name and FILE, MAP and OUT.
+const MOST_ARGUMENTS: usize = 4;
 
 // The map as the program was given it: without one every block came. A map that is not as long as the picture has blocks is
 // complained of, an empty one too, which the reader would take for a picture that came whole.
-fn map_of(
+fn map_of<'a>(
     rt: &impl Files,
-    errors: &impl Print,
-    name: &[u8],
-    given: usize,
+    complaints: &Complaints<impl Print>,
+    name: Option<&[u8]>,
     blocks: usize,
-    map: &mut [u8],
-) -> Loaded
-    ensures { IsPrefixLen result.size map.new }
+    buffer: &'a mut [u8],
+) -> Result<&'a [u8], Complained>
+    ensures { IfOk result (λ map. length map.now ≤ length buffer.old) }
 {
-    if given < WITH_MAP {
-        return Loaded {
-            good: true,
-            size: records::least(blocks, map.len()),
-        };
-    }
-    let loaded = load::load(rt, errors, b"strips", b"cannot read the map '", name, map);
-    let length = loaded.size;
-    if !loaded.good || length == blocks {
-        return loaded;
-    }
-    if length == map.len() {
-        complain::wrong_length(errors, name, b"at least ", length, blocks);
+    let most = buffer.len();
+    let Some(name) = name else {
+        return Ok(&buffer[..blocks.min(most)]);
+    };
+    let map = load::load(rt, complaints, "cannot read the map", name, buffer)?;
+    if map.len() == blocks {
+        Ok(map)
     } else {
-        complain::wrong_length(errors, name, b"", length, blocks);
-    }
-    Loaded {
-        good: false,
-        size: length,
+        Err(complain::wrong_length(complaints, name, map.len(), most, blocks))
     }
 }
 
 // Both files are read before anything is reported.
 fn run(
     rt: &(impl Print + Files),
-    errors: &impl Print,
+    complaints: &Complaints<impl Print>,
     name: &[u8],
-    map_name: &[u8],
-    out: &[u8],
-    given: usize,
-    kind: Kind,
-) {
-    let mut file = new_file();
-    let loaded = load::load(
-        rt,
-        errors,
-        b"strips",
-        b"cannot read the picture '",
-        name,
-        &mut file,
-    );
-    let n = loaded.size;
-    if !loaded.good {
-        return;
+    map_name: Option<&[u8]>,
+    target: Option<Target>,
+) -> Result<(), Complained> {
+    let mut file = filled::<FILE>(0);
+    let picture = load::load(rt, complaints, "cannot read the picture", name, &mut file)?;
+    if report::MOST < picture.len() {
+        return Err(complain::too_large(complaints, name, report::MOST));
     }
-    if report::MOST < n {
-        complain::too_large(errors, name, report::MOST);
-        return;
-    }
-    let mut map = new_map();
-    let delivered = map_of(rt, errors, map_name, given, seen::blocks_in(n), &mut map);
-    let m = delivered.size;
-    if delivered.good {
-        say::line(rt, name);
-        report::show(rt, errors, b"strips", out, kind, &file[..n], &map[..m]);
-    }
+    // Every block came, as far as no map says otherwise.
+    let mut came = filled::<MAP>(1);
+    let blocks = seen::blocks_in(picture.len());
+    let map = map_of(rt, complaints, map_name, blocks, &mut came)?;
+    let _ = rt.write_all(name);
+    let _ = println!(rt);
+    report::show(rt, complaints, target, picture, map)
 }
 
 // Where it is not clear what to write, nothing is read.
-fn run_for(
-    rt: &(impl Print + Files),
-    errors: &impl Print,
-    name: &[u8],
-    map_name: &[u8],
-    out: &[u8],
-    given: usize,
-) {
-    let kind = arguments::kind_of(WITH_OUT <= given, out);
-    match kind {
-        Kind::Unknown => report::complain::ending(errors, b"strips", out),
-        _ => run(rt, errors, name, map_name, out, given, kind),
-    }
-}
-
-fn start(rt: &(impl Print + Files + Env), errors: &impl Print, given: usize) {
-    let mut name = io::buffer();
-    let mut map = io::buffer();
-    let mut out = io::buffer();
-    let first = arguments::argument(rt, errors, b"strips", 1, &mut name);
-    let second = arguments::argument(rt, errors, b"strips", 2, &mut map);
-    let third = arguments::argument(rt, errors, b"strips", 3, &mut out);
-    let n = first.size;
-    let m = second.size;
-    let o = third.size;
-    if first.good && second.good && third.good {
-        run_for(rt, errors, &name[..n], &map[..m], &out[..o], given);
-    }
+fn start(
+    rt: &(impl Print + Files + Env),
+    complaints: &Complaints<impl Print>,
+) -> Result<(), Complained> {
+    let mut name = filled::<NAME>(0);
+    let mut map = filled::<NAME>(0);
+    let mut out = filled::<NAME>(0);
+    let name = arguments::argument(rt, complaints, 1, &mut name);
+    let map = arguments::argument(rt, complaints, 2, &mut map);
+    let out = arguments::argument(rt, complaints, 3, &mut out);
+    // Each of them is complained of that is too long.
+    let (name, map, out) = (name?, map?, out?);
+    let Some(name) = name else {
+        return Err(complain::usage(complaints));
+    };
+    run(
+        rt,
+        complaints,
+        name,
+        map,
+        arguments::target_of(complaints, out)?,
+    )
 }
 
 fn main(rt: HostRuntime) {
-    let errors = rt.stderr();
+    let complaints = Complaints {
+        errors: rt.stderr(),
+        program: "strips",
+    };
     let given = arguments::count(&rt);
-    if given < 2 {
-        complain::usage(&errors);
-    } else if WITH_OUT < given {
-        complain::too_many(&errors, given - 1);
+    let _ = if MOST_ARGUMENTS < given {
+        Err(complain::too_many(&complaints, given - 1))
     } else {
-        start(&rt, &errors, given);
-    }
+        start(&rt, &complaints)
+    };
 }
