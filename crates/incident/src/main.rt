@@ -2,11 +2,11 @@
 // that block is marked and blank, and the other strips are right. tests/incident.py computes `stdout`; nothing expected is in here.
 #![tactic(auto)]
 
-ghost use Rattle.std.specs.Prelude.{◌≡◌, ◌≤◌, IfOk, length};
+ghost use Rattle.std.specs.Io.{ReadsAtMost};
 
+use buffers::{filled, read_full};
 use header::Limits;
-use line::say;
-use std::io::{Read, Write};
+use std::io::Write;
 use std::rt::Files;
 use std::{fs, io};
 
@@ -36,31 +36,9 @@ const UNITS: usize = 10000000;
 // A file has at most so many bytes: what follows them is not read.
 const FILE: usize = 65536;
 
-// Room for a picture. The contract gives its length, which lending it as a slice needs.
-fn new_picture() -> [u8; PICTURE]
-    ensures { 1843200 ≡ length result }
-{
-    [0; PICTURE]
-}
-
-// Reads until the buffer is full or the input ends; how many bytes there are. After an error the buffer may have some of them.
-fn read_full(input: &mut impl Read, buffer: &mut [u8]) -> io::Result<usize>
-    ensures { IfOk result (λ n. n ≤ length buffer.new) }
-{
-    let mut done: usize = 0;
-    while done < buffer.len() {
-        let n = input.read(&mut buffer[done..])?;
-        if n == 0 {
-            break;
-        }
-        done += n;
-    }
-    Ok(done)
-}
-
 // The whole file at the start of the buffer; how many bytes there are. A file that can't be opened is named on standard error.
 fn load(rt: &(impl Files + Eprint), path: &str, file: &mut [u8]) -> io::Result<usize>
-    ensures { IfOk result (λ n. n ≤ length file.new) }
+    ensures { ReadsAtMost result file.new }
 {
     match fs::open(rt, path) {
         Ok(mut input) => read_full(&mut input, file),
@@ -73,17 +51,15 @@ fn load(rt: &(impl Files + Eprint), path: &str, file: &mut [u8]) -> io::Result<u
 
 // What stood in the lost block's place before the file came is still there.
 fn leave_stale(stale: &[u8], file: &mut [u8]) {
-    let mut i: usize = START;
-    while i < END && i < stale.len() && i < file.len() {
-        file[i] = stale[i];
-        i += 1;
+    for (to, from) in file.iter_mut().zip(stale).take(END).skip(START) {
+        *to = *from;
     }
 }
 
 // A reading into the picture's buffer: its answer, the quality of each strip, and what the buffer then has.
 fn show(
     out: &mut impl Write,
-    what: &[u8],
+    what: &str,
     file: &[u8],
     map: &[u8],
     picture: &mut [u8],
@@ -98,7 +74,7 @@ fn show(
         max_tags: 20,
         max_segments: STRIPS,
     };
-    say(out, what)?;
+    writeln!(out, "{what}")?;
     let reading = patchy::read(
         file,
         map,
@@ -115,11 +91,11 @@ fn show(
 }
 
 // The camera's file without the lost block, read into the buffer that has the previous picture.
-fn show_patchy(out: &mut impl Write, what: &[u8], previous: &[u8], file: &[u8]) -> io::Result<()> {
-    let mut picture = new_picture();
+fn show_patchy(out: &mut impl Write, what: &str, previous: &[u8], file: &[u8]) -> io::Result<()> {
+    let mut picture = filled::<PICTURE>(0);
     show(
         out,
-        b"the previous picture, whole\n",
+        "the previous picture, whole",
         previous,
         b"",
         &mut picture,
@@ -130,14 +106,8 @@ fn show_patchy(out: &mut impl Write, what: &[u8], previous: &[u8], file: &[u8]) 
 }
 
 fn show_whole(out: &mut impl Write, file: &[u8]) -> io::Result<()> {
-    let mut picture = new_picture();
-    show(
-        out,
-        b"the camera's picture, whole\n",
-        file,
-        b"",
-        &mut picture,
-    )
+    let mut picture = filled::<PICTURE>(0);
+    show(out, "the camera's picture, whole", file, b"", &mut picture)
 }
 
 // Both files: the camera's whole, without a block that has the previous file's bytes, and without the same that has others.
@@ -147,14 +117,14 @@ fn run(out: &mut impl Write, previous: &[u8], file: &mut [u8]) -> io::Result<()>
     leave_stale(previous, file);
     show_patchy(
         out,
-        b"the camera's picture, block 44 lost, the previous file's bytes in its place\n",
+        "the camera's picture, block 44 lost, the previous file's bytes in its place",
         previous,
         file,
     )?;
     leave_stale(&others, file);
     show_patchy(
         out,
-        b"the camera's picture, block 44 lost, other bytes in its place\n",
+        "the camera's picture, block 44 lost, other bytes in its place",
         previous,
         file,
     )
