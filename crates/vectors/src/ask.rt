@@ -1,4 +1,5 @@
 // What a reading is asked for: the first eight numbers of a record.
+use crate::walk::Numbers;
 use header::Limits;
 
 #[derive(Clone, Copy)]
@@ -8,21 +9,19 @@ pub struct Ask {
     pub units: usize,
 }
 
-fn limits_of(numbers: &[u8]) -> Limits {
-    Limits {
-        max_input: records::num(numbers, 8),
-        max_output: records::num(numbers, 16),
-        max_dimension: records::num(numbers, 24),
-        max_directories: records::num(numbers, 32),
-        max_tags: records::num(numbers, 40),
-        max_segments: records::num(numbers, 48),
-    }
-}
-
-pub fn ask_of(numbers: &[u8]) -> Ask {
-    Ask {
-        page: records::num(numbers, 0),
-        limits: limits_of(numbers),
-        units: records::num(numbers, 56),
+impl Ask {
+    pub fn of(numbers: Numbers) -> Self {
+        Ask {
+            page: numbers.at(0),
+            limits: Limits {
+                max_input: numbers.at(1),
+                max_output: numbers.at(2),
+                max_dimension: numbers.at(3),
+                max_directories: numbers.at(4),
+                max_tags: numbers.at(5),
+                max_segments: numbers.at(6),
+            },
+            units: numbers.at(7),
+        }
     }
 }

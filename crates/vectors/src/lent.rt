@@ -1,5 +1,5 @@
 // The buffers that calls are lent: each is set to FILL before a call, so that untouched bytes show.
-ghost use Rattle.std.specs.Prelude.{◌≡◌, length};
+ghost use Rattle.std.specs.Prelude.{◌≤◌, length};
 
 pub const FILL: u8 = 165;
 
@@ -9,9 +9,15 @@ pub const ROOM: usize = 20480;
 // The pixels of the largest picture, which is the camera's: 640 x 480, of six bytes each.
 pub const PICTURE: usize = 1843200;
 
-// Room for any picture. The contract gives its length, which lending it as a slice needs.
-pub fn new_picture() -> [u8; PICTURE]
-    ensures { 1843200 ≡ length result }
+// Bytes at the start of a buffer, and how many they are: none where there is no room for all of them.
+pub fn place(bytes: &[u8], buffer: &mut [u8]) -> usize
+    ensures { result ≤ length buffer.new }
 {
-    [FILL; PICTURE]
+    match buffer.get_mut(..bytes.len()) {
+        Some(front) => {
+            front.copy_from_slice(bytes);
+            bytes.len()
+        }
+        None => 0,
+    }
 }

@@ -1,107 +1,60 @@
-// What is written of numbers, checksums and answers that several groups have. The error of a write goes up to main, which ends with it;
+// What is written of checksums and answers that several groups have. The error of a write goes up to main, which ends with it;
 // what came before it is written.
 use checks::Verdict;
 use picture::Format;
+use records::crc::crc32;
 use std::io;
 use std::io::Write;
 
-pub fn say(out: &mut impl Write, word: &[u8]) -> io::Result<()> {
-    out.write_all(word)
-}
-
-pub fn put_number(out: &mut impl Write, n: usize) -> io::Result<()> {
-    write!(out, "{n}")
-}
-
-pub fn put(out: &mut impl Write, before: &[u8], n: usize) -> io::Result<()> {
-    say(out, before)?;
-    put_number(out, n)
-}
-
-// In hexadecimal, with at least so many digits.
-pub fn put_hex(out: &mut impl Write, n: u64, digits: usize) -> io::Result<()> {
-    write!(out, "{n:0digits$x}")
-}
-
-pub fn put_checksum(out: &mut impl Write, before: &[u8], buffer: &[u8]) -> io::Result<()> {
-    say(out, before)?;
-    put_hex(out, records::crc::crc32(buffer) as u64, 8)
+pub fn put_checksum(out: &mut impl Write, name: &str, buffer: &[u8]) -> io::Result<()> {
+    write!(out, ", {name} {:08x}", crc32(buffer))
 }
 
 fn put_bytes(out: &mut impl Write, bytes: &[u8]) -> io::Result<()> {
-    let mut i: usize = 0;
-    while i < bytes.len() {
-        put_hex(out, records::wide(bytes[i]) as u64, 2)?;
-        i += 1;
+    for byte in bytes {
+        write!(out, "{byte:02x}")?;
     }
     Ok(())
 }
 
-// Adler-32: a checksum that many other programs can compute.
-fn adler(bytes: &[u8]) -> u64 {
-    let mut a: usize = 1;
-    let mut b: usize = 0;
-    let mut i: usize = 0;
-    while i < bytes.len() {
-        a = (a + records::wide(bytes[i])) % 65521;
-        b = (b + a) % 65521;
-        i += 1;
-    }
-    (b * 65536 + a) as u64
-}
-
-// A buffer after the call: all of it, or where that is long a checksum and its first bytes.
+// A buffer after the call: all of it, or where that is long a checksum that many other programs can compute and its first bytes.
 pub fn show(out: &mut impl Write, buffer: &[u8]) -> io::Result<()> {
-    if buffer.len() == 0 {
-        return say(out, b" -");
+    match buffer.len() {
+        0 => write!(out, " -"),
+        1..=64 => {
+            write!(out, " ")?;
+            put_bytes(out, buffer)
+        }
+        _ => {
+            write!(out, " #{:08x} ", zlib::adler::more(1, buffer))?;
+            put_bytes(out, &buffer[..16])
+        }
     }
-    if 64 < buffer.len() {
-        say(out, b" #")?;
-        put_hex(out, adler(buffer), 8)?;
-        say(out, b" ")?;
-        return put_bytes(out, &buffer[0..16]);
-    }
-    say(out, b" ")?;
-    put_bytes(out, buffer)
 }
 
-fn number_of(v: Verdict) -> usize {
-    match v {
+pub fn put_verdict(out: &mut impl Write, verdict: Verdict) -> io::Result<()> {
+    let number = match verdict {
         Verdict::Fine => 0,
-        Verdict::Refused(n) => records::wide(n),
-    }
+        Verdict::Refused(number) => number,
+    };
+    write!(out, " {number}")
 }
 
-pub fn put_verdict(out: &mut impl Write, v: Verdict) -> io::Result<()> {
-    put(out, b" ", number_of(v))
-}
-
-pub fn put_refusal(out: &mut impl Write, n: u8, left: usize) -> io::Result<()> {
-    put(out, b" refused ", records::wide(n))?;
-    put(out, b", left ", left)
-}
-
-pub fn put_sides(
-    out: &mut impl Write,
-    before: &[u8],
-    width: usize,
-    height: usize,
-) -> io::Result<()> {
-    put(out, before, width)?;
-    put(out, b" x ", height)
+pub fn put_refusal(out: &mut impl Write, number: u8, left: usize) -> io::Result<()> {
+    write!(out, " refused {number}, left {left}")
 }
 
 pub fn put_shape(out: &mut impl Write, f: Format) -> io::Result<()> {
-    put_sides(out, b" ", f.width, f.height)?;
-    if f.tiled {
-        say(out, b", tiles")?;
-    } else {
-        say(out, b", strips")?;
-    }
-    put_sides(out, b" ", f.block_width, f.block_height)?;
-    put(out, b", ", f.across)?;
-    put(out, b" across, ", f.segments)?;
-    put(out, b" segments, ", f.output)?;
-    put(out, b" bytes, ", head::channels_of(f.mono))?;
-    say(out, b" channels")
+    let kind = if f.tiled { "tiles" } else { "strips" };
+    write!(out, " {} x {}, {kind}", f.width, f.height)?;
+    write!(
+        out,
+        " {} x {}, {} across, {} segments, {} bytes, {} channels",
+        f.block_width,
+        f.block_height,
+        f.across,
+        f.segments,
+        f.output,
+        head::channels_of(f.mono)
+    )
 }

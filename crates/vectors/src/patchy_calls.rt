@@ -1,8 +1,8 @@
 // The calls of patchy reading.
 use crate::ask::Ask;
 use crate::lent::{FILL, ROOM};
-use crate::line::{put, say};
-use crate::{ask, line};
+use crate::line;
+use crate::walk::Record;
 use patchy::{Reading, Sizes};
 use std::io;
 use std::io::Write;
@@ -11,37 +11,29 @@ use std::io::Write;
 const CODES: usize = 64;
 
 fn put_sizes(out: &mut impl Write, s: Sizes) -> io::Result<()> {
-    line::put_sides(out, b" ", s.width, s.height)?;
-    line::put_sides(out, b", blocks ", s.block_width, s.block_height)?;
-    put(out, b", ", s.segments)?;
-    put(out, b" segments, ", s.channels)?;
-    say(out, b" channels")
+    write!(
+        out,
+        " {} x {}, blocks {} x {}, {} segments, {} channels",
+        s.width, s.height, s.block_width, s.block_height, s.segments, s.channels
+    )
 }
 
 fn put_reading(out: &mut impl Write, reading: Reading) -> io::Result<()> {
     match reading {
-        Reading::Refused(n, left) => line::put_refusal(out, n, left),
+        Reading::Refused(number, left) => line::put_refusal(out, number, left),
         Reading::Picture(sizes, left) => {
             put_sizes(out, sizes)?;
-            put(out, b", left ", left)
+            write!(out, ", left {left}")
         }
     }
 }
 
-fn put_codes(out: &mut impl Write, codes: &[u8]) -> io::Result<()> {
-    let mut k: usize = 0;
-    while k < codes.len() {
-        line::put_number(out, records::wide(codes[k]))?;
-        k += 1;
-    }
-    Ok(())
-}
-
 fn put_quality(out: &mut impl Write, quality: &[u8]) -> io::Result<()> {
-    let n = records::least(quality.len(), CODES);
-    say(out, b", codes ")?;
-    put_codes(out, &quality[0..n])?;
-    line::put_checksum(out, b", quality ", quality)
+    write!(out, ", codes ")?;
+    for code in quality.iter().take(CODES) {
+        write!(out, "{code}")?;
+    }
+    line::put_checksum(out, "quality", quality)
 }
 
 pub fn read(
@@ -53,40 +45,35 @@ pub fn read(
     scratch: &mut [u8],
     quality: &mut [u8],
 ) -> io::Result<()> {
-    let limits = asked.limits;
-    put_reading(
-        out,
-        patchy::read(
-            file,
-            map,
-            asked.page,
-            limits,
-            asked.units,
-            output,
-            scratch,
-            quality,
-        ),
-    )?;
-    line::put_checksum(out, b", output ", output)?;
-    line::put_checksum(out, b", scratch ", scratch)?;
+    let reading = patchy::read(
+        file,
+        map,
+        asked.page,
+        asked.limits,
+        asked.units,
+        output,
+        scratch,
+        quality,
+    );
+    put_reading(out, reading)?;
+    line::put_checksum(out, "output", output)?;
+    line::put_checksum(out, "scratch", scratch)?;
     put_quality(out, quality)
 }
 
 // The numbers after those of the question say how many bytes output, scratch and quality have.
-pub fn run(out: &mut impl Write, numbers: &[u8], file: &[u8], map: &[u8]) -> io::Result<()> {
+pub fn run(out: &mut impl Write, record: Record) -> io::Result<()> {
+    let numbers = record.numbers;
     let mut output = [FILL; ROOM];
     let mut scratch = [FILL; ROOM];
     let mut quality = [FILL; ROOM];
-    let a = records::least(records::num(numbers, 64), ROOM);
-    let b = records::least(records::num(numbers, 72), ROOM);
-    let c = records::least(records::num(numbers, 80), ROOM);
     read(
         out,
-        ask::ask_of(numbers),
-        file,
-        map,
-        &mut output[0..a],
-        &mut scratch[0..b],
-        &mut quality[0..c],
+        Ask::of(numbers),
+        record.file,
+        record.more,
+        &mut output[..numbers.at(8).min(ROOM)],
+        &mut scratch[..numbers.at(9).min(ROOM)],
+        &mut quality[..numbers.at(10).min(ROOM)],
     )
 }

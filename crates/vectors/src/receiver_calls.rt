@@ -1,8 +1,7 @@
 // The calls of the receiver: a start, a block, and the replay of a trace.
-use crate::lent::{FILL, ROOM};
+use crate::lent::{FILL, ROOM, place};
 use crate::line;
-use crate::line::{put, say};
-use crate::paths::append;
+use crate::walk::{Numbers, Record};
 use receiver::{Received, Receiver};
 use std::io;
 use std::io::Write;
@@ -13,116 +12,86 @@ const TAIL: u8 = 90;
 
 const LONGEST: usize = 66560;
 
+// What a call is given: the receiver, the length of a start or the number of a block, and the bytes of a block or a trace.
 #[derive(Clone, Copy)]
-pub enum Message {
-    Start,
-    Block,
-    Trace,
+struct Given<'a> {
+    state: Receiver,
+    number: usize,
+    bytes: &'a [u8],
 }
 
 // The first numbers are whether a picture was started, and its length.
-fn state_of(numbers: &[u8]) -> Receiver {
+fn state_of(numbers: Numbers) -> Receiver {
     Receiver {
-        started: records::num(numbers, 0) == 1,
-        length: records::num(numbers, 8),
-    }
-}
-
-fn put_state(out: &mut impl Write, state: Receiver) -> io::Result<()> {
-    if state.started {
-        put(out, b", started ", state.length)
-    } else {
-        put(out, b", idle ", state.length)
+        started: numbers.at(0) == 1,
+        length: numbers.at(1),
     }
 }
 
 fn put_received(out: &mut impl Write, received: Received) -> io::Result<()> {
-    let answer = received.answer;
-    line::put_verdict(out, answer)?;
-    put_state(out, received.receiver)
+    let state = received.receiver;
+    let started = if state.started { "started" } else { "idle" };
+    line::put_verdict(out, received.answer)?;
+    write!(out, ", {started} {}", state.length)
 }
 
 fn put_next(out: &mut impl Write, next: Next) -> io::Result<()> {
     match next {
-        Next::Over => say(out, b" over;"),
-        Next::Cut => say(out, b" cut;"),
-        Next::Foreign => say(out, b" foreign;"),
-        Next::Start(length) => {
-            put(out, b" start ", length)?;
-            say(out, b";")
-        }
-        Next::Block(number, size) => {
-            put(out, b" block ", number)?;
-            put(out, b" of ", size)?;
-            say(out, b";")
-        }
+        Next::Over => write!(out, " over;"),
+        Next::Cut => write!(out, " cut;"),
+        Next::Foreign => write!(out, " foreign;"),
+        Next::Start(length) => write!(out, " start {length};"),
+        Next::Block(number, size) => write!(out, " block {number} of {size};"),
     }
 }
 
-fn replay(
-    out: &mut impl Write,
-    trace: &[u8],
-    file: &mut [u8],
-    map: &mut [u8],
-    state: Receiver,
-) -> io::Result<()> {
-    put_next(out, trace::first(trace))?;
-    put_received(out, receiver::replay(trace, file, map, state))
-}
-
-// The third number is the length of a start or the number of a block.
-fn receive(
-    out: &mut impl Write,
-    message: Message,
-    numbers: &[u8],
-    bytes: &[u8],
-    file: &mut [u8],
-    map: &mut [u8],
-) -> io::Result<()> {
-    let state = state_of(numbers);
-    let number = records::num(numbers, 16);
-    match message {
-        Message::Start => put_received(out, receiver::start(file, map, state, number)),
-        Message::Block => put_received(out, receiver::block(file, map, state, number, bytes)),
-        Message::Trace => replay(out, bytes, file, map, state),
-    }
-}
-
-fn run_lent(
-    out: &mut impl Write,
-    message: Message,
-    numbers: &[u8],
-    bytes: &[u8],
-    file: &mut [u8],
-    map: &mut [u8],
-) -> io::Result<()> {
-    receive(out, message, numbers, bytes, file, map)?;
-    line::put_checksum(out, b", file ", file)?;
-    say(out, b", map")?;
-    line::show(out, map)
-}
-
-// The last two numbers are how many bytes come after those of the record, and how many the file buffer has. The map is the record's.
-pub fn run(
-    out: &mut impl Write,
-    message: Message,
-    numbers: &[u8],
-    bytes: &[u8],
-    came: &[u8],
-) -> io::Result<()> {
+// Makes a call with the buffers that it is lent. The last two numbers are how many bytes come after those of the record, and how many
+// the file buffer has. The map is the record's.
+fn run<W: Write, F: FnOnce(&mut W, Given<'_>, &mut [u8], &mut [u8]) -> io::Result<()>>(
+    out: &mut W,
+    record: Record,
+    call: F,
+) -> io::Result<()>
+    requires { F.IsAlwaysCallable call }
+{
+    let numbers = record.numbers;
     let mut long = [TAIL; LONGEST];
     let mut file = [FILL; ROOM];
     let mut map = [FILL; ROOM];
-    let own = append(bytes, &mut long, 0);
-    let end = own + records::least(records::num(numbers, 24), LONGEST - own);
-    let n = records::least(records::num(numbers, 32), ROOM);
-    let m = append(came, &mut map, 0);
-    run_lent(
-        out,
-        message,
-        numbers,
-        &long[0..end],
-        &mut file[0..n],
-        &mut map[0..m],
-    )
+    let own = place(record.file, &mut long);
+    let end = own + numbers.at(3).min(LONGEST - own);
+    let came = place(record.more, &mut map);
+    let file = &mut file[..numbers.at(4).min(ROOM)];
+    let map = &mut map[..came];
+    let given = Given {
+        state: state_of(numbers),
+        number: numbers.at(2),
+        bytes: &long[..end],
+    };
+    call(out, given, file, map)?;
+    line::put_checksum(out, "file", file)?;
+    write!(out, ", map")?;
+    line::show(out, map)
+}
+
+pub fn run_start<W: Write>(out: &mut W, record: Record) -> io::Result<()> {
+    run(out, record, |out, given, file, map| {
+        put_received(out, receiver::start(file, map, given.state, given.number))
+    })
+}
+
+pub fn run_block<W: Write>(out: &mut W, record: Record) -> io::Result<()> {
+    run(out, record, |out, given, file, map| {
+        put_received(
+            out,
+            receiver::block(file, map, given.state, given.number, given.bytes),
+        )
+    })
+}
+
+pub fn run_trace<W: Write>(out: &mut W, record: Record) -> io::Result<()> {
+    run(out, record, |out, given, file, map| {
+        put_next(out, trace::first(given.bytes))?;
+        put_received(out, receiver::replay(given.bytes, file, map, given.state))
+    })
 }

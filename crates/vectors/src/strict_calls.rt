@@ -1,9 +1,8 @@
 // The calls of strict reading: inspection, decode of its handle or of one in which something was changed, and the work limit.
 use crate::ask::Ask;
-use crate::change::Change;
 use crate::lent::{FILL, ROOM};
-use crate::line::{put, say};
-use crate::{ask, change, line};
+use crate::line;
+use crate::walk::Record;
 use checks::{Size, Told};
 use handle::{Handle, Inspected};
 use header::Limits;
@@ -11,58 +10,19 @@ use picture::Format;
 use std::io;
 use std::io::Write;
 
-#[derive(Clone, Copy)]
-pub enum Strict {
-    Reading,
-    Forged,
-    Bound,
-}
-
-// What decode is given: units, and how many bytes the lent buffers have.
-#[derive(Clone, Copy)]
-struct Lent {
-    units: usize,
-    output: usize,
-    scratch: usize,
-}
-
-fn change_of(numbers: &[u8]) -> Change {
-    Change {
-        field: records::num(numbers, 64),
-        value: records::num(numbers, 72),
-    }
-}
-
-fn lent_of(numbers: &[u8]) -> Lent {
-    Lent {
-        units: records::num(numbers, 80),
-        output: records::num(numbers, 88),
-        scratch: records::num(numbers, 96),
-    }
-}
-
 pub fn put_handle(out: &mut impl Write, h: Handle, left: usize) -> io::Result<()> {
-    let format = h.format;
-    line::put_shape(out, format)?;
-    put(out, b", entries ", format.entries)?;
-    put(out, b", page ", h.page)?;
-    put(out, b", scratch ", h.scratch)?;
-    put(out, b", work ", h.work)?;
-    put(out, b", left ", left)?;
-    say(out, b";")
+    line::put_shape(out, h.format)?;
+    write!(
+        out,
+        ", entries {}, page {}, scratch {}, work {}, left {left};",
+        h.format.entries, h.page, h.scratch, h.work
+    )
 }
 
 fn put_told(out: &mut impl Write, told: Told) -> io::Result<()> {
     match told {
-        Told::Refused(n, left) => line::put_refusal(out, n, left),
-        Told::Passed(left) => put(out, b" decoded, left ", left),
-    }
-}
-
-fn put_size(out: &mut impl Write, size: Size) -> io::Result<()> {
-    match size {
-        Size::Over => say(out, b" over"),
-        Size::Fits(n) => put(out, b" ", n),
+        Told::Refused(number, left) => line::put_refusal(out, number, left),
+        Told::Passed(left) => write!(out, " decoded, left {left}"),
     }
 }
 
@@ -79,64 +39,76 @@ pub fn decode(
         out,
         logluv_tiff::decode(file, limits, handle, units, output, scratch),
     )?;
-    line::put_checksum(out, b", output ", output)?;
-    line::put_checksum(out, b", scratch ", scratch)
+    line::put_checksum(out, "output", output)?;
+    line::put_checksum(out, "scratch", scratch)
 }
 
-fn run_decode(
-    out: &mut impl Write,
-    file: &[u8],
-    limits: Limits,
-    handle: Handle,
-    lent: Lent,
-) -> io::Result<()> {
+// One field of a handle, or one of the limits, is changed, if any: they are counted from 1 in the order in which they stand here, but
+// the head is the last.
+fn change(field: usize, value: usize, handle: &mut Handle, limits: &mut Limits) {
+    match field {
+        1 => handle.format.width = value,
+        2 => handle.format.height = value,
+        3 => handle.format.block_width = value,
+        4 => handle.format.block_height = value,
+        5 => handle.format.tiled = value == 1,
+        6 => handle.format.across = value,
+        7 => handle.format.segments = value,
+        8 => handle.format.output = value,
+        9 => handle.format.big = value == 1,
+        10 => handle.format.offsets = value,
+        11 => handle.format.counts = value,
+        12 => handle.format.entries = value,
+        13 => handle.page = value,
+        14 => handle.scratch = value,
+        15 => handle.work = value,
+        16 => limits.max_input = value,
+        17 => limits.max_output = value,
+        18 => limits.max_dimension = value,
+        19 => limits.max_directories = value,
+        20 => limits.max_tags = value,
+        21 => limits.max_segments = value,
+        22 => handle.format.mono = value == 1,
+        _ => {}
+    }
+}
+
+// Decode of a handle in which something may have been changed, of the file or, where there is one, of another. The numbers after those
+// of the question say what is changed, and then the units and how many bytes the lent buffers have.
+fn run_changed(out: &mut impl Write, record: Record, handle: Handle) -> io::Result<()> {
+    let numbers = record.numbers;
+    let mut limits = Ask::of(numbers).limits;
+    let mut changed = handle;
+    change(numbers.at(8), numbers.at(9), &mut changed, &mut limits);
+    let file = if record.more.is_empty() {
+        record.file
+    } else {
+        record.more
+    };
     let mut output = [FILL; ROOM];
     let mut scratch = [FILL; ROOM];
-    let n = records::least(lent.output, ROOM);
-    let m = records::least(lent.scratch, ROOM);
     decode(
         out,
         file,
         limits,
-        handle,
-        lent.units,
-        &mut output[0..n],
-        &mut scratch[0..m],
+        changed,
+        numbers.at(10),
+        &mut output[..numbers.at(11).min(ROOM)],
+        &mut scratch[..numbers.at(12).min(ROOM)],
     )
 }
 
-// Decode of a handle in which something may have been changed, of the file or of another one.
-fn run_changed(
-    out: &mut impl Write,
-    numbers: &[u8],
-    asked: Ask,
-    file: &[u8],
-    other: &[u8],
-    handle: Handle,
-) -> io::Result<()> {
-    let c = change_of(numbers);
-    let lent = lent_of(numbers);
-    let limits = change::in_limits(asked.limits, c);
-    let changed = change::in_handle(handle, c);
-    if other.len() == 0 {
-        run_decode(out, file, limits, changed, lent)
-    } else {
-        run_decode(out, other, limits, changed, lent)
-    }
-}
-
-fn run_reading(
-    out: &mut impl Write,
-    numbers: &[u8],
-    asked: Ask,
-    file: &[u8],
-    other: &[u8],
-) -> io::Result<()> {
-    match logluv_tiff::inspect(file, asked.page, asked.limits, asked.units) {
-        Inspected::Refused(n, left) => line::put_refusal(out, n, left),
+pub fn run_reading(out: &mut impl Write, record: Record) -> io::Result<()> {
+    let Ask {
+        page,
+        limits,
+        units,
+    } = Ask::of(record.numbers);
+    match logluv_tiff::inspect(record.file, page, limits, units) {
+        Inspected::Refused(number, left) => line::put_refusal(out, number, left),
         Inspected::Picture(handle, left) => {
             put_handle(out, handle, left)?;
-            run_changed(out, numbers, asked, file, other, handle)
+            run_changed(out, record, handle)
         }
     }
 }
@@ -164,20 +136,14 @@ fn no_handle() -> Handle {
     }
 }
 
-pub fn run(
-    out: &mut impl Write,
-    call: Strict,
-    numbers: &[u8],
-    file: &[u8],
-    other: &[u8],
-) -> io::Result<()> {
-    let asked = ask::ask_of(numbers);
-    match call {
-        Strict::Reading => run_reading(out, numbers, asked, file, other),
-        Strict::Forged => run_changed(out, numbers, asked, file, other, no_handle()),
-        Strict::Bound => put_size(
-            out,
-            work_limit::logluv_inspection_work_limit(asked.page, asked.limits),
-        ),
+pub fn run_forged(out: &mut impl Write, record: Record) -> io::Result<()> {
+    run_changed(out, record, no_handle())
+}
+
+pub fn run_bound(out: &mut impl Write, record: Record) -> io::Result<()> {
+    let Ask { page, limits, .. } = Ask::of(record.numbers);
+    match work_limit::logluv_inspection_work_limit(page, limits) {
+        Size::Over => write!(out, " over"),
+        Size::Fits(units) => write!(out, " {units}"),
     }
 }

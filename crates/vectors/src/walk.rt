@@ -1,12 +1,7 @@
-// Goes through the records of a file: for each it makes the calls of its kind and writes a line.
-ghost use Rattle.std.specs.Prelude.{◌<◌, ◌≤◌, IfOk, length};
+// Goes through the records of a file: for each it makes a call and writes a line.
+ghost use Rattle.std.specs.Prelude.{◌<◌, IfSome, length};
+ghost use Rattle.std.specs.Iterator.{at_most};
 
-use crate::front_calls::Front;
-use crate::leaf_calls::Leaf;
-use crate::line::say;
-use crate::receiver_calls::Message;
-use crate::strict_calls::Strict;
-use crate::{front_calls, leaf_calls, patchy_calls, receiver_calls, strict_calls};
 use std::io;
 use std::io::Write;
 
@@ -14,70 +9,88 @@ use std::io::Write;
 // them are the call's numbers, the third how many come next, as its input or file; the rest are a map or another file.
 const TAG: usize = 16;
 
-const HEAD: usize = 40;
+const HEAD: usize = 24;
 
-// What a file's records are, and so which functions they go through.
+// The numbers of a record, eight bytes each; 0 where there are no more.
 #[derive(Clone, Copy)]
-pub enum Kind {
-    Leaf(Leaf),
-    Front(Front),
-    Strict(Strict),
-    Patchy,
-    Receiver(Message),
+pub struct Numbers<'a>(&'a [u8]);
+
+impl Numbers<'_> {
+    pub fn at(self, i: u8) -> usize {
+        records::num(self.0, 8 * usize::from(i))
+    }
 }
 
-fn run(
-    out: &mut impl Write,
-    kind: Kind,
-    numbers: &[u8],
+#[derive(Clone, Copy)]
+pub struct Record<'a> {
+    tag: &'a [u8],
+    pub numbers: Numbers<'a>,
+    pub file: &'a [u8],
+    pub more: &'a [u8],
+}
+
+// The file ends within a record.
+#[derive(Clone, Copy, Debug, PartialEq, Eq)]
+struct Cut;
+
+impl<'a> Record<'a> {
+    // The record that a file begins with, and what comes after it.
+    fn first(file: &'a [u8]) -> Option<(Self, &'a [u8])>
+        ensures { IfSome result (λ found. length found.1.now < length file.now) }
+    {
+        let (tag, rest) = file.split_at_checked(TAG)?;
+        let (head, rest) = rest.split_at_checked(HEAD)?;
+        let (parts, after) = rest.split_at_checked(records::num(head, 0))?;
+        let (numbers, parts) = parts.split_at(records::num(head, 8).min(parts.len()));
+        let (file, more) = parts.split_at(records::num(head, 16).min(parts.len()));
+        let record = Record {
+            tag,
+            numbers: Numbers(numbers),
+            file,
+            more,
+        };
+        Some((record, after))
+    }
+}
+
+// The records of a file, one after the other.
+#[derive(Drop)]
+struct Records<'a>(&'a [u8]);
+
+impl<'a> Iterator for Records<'a> {
+    type Item = Result<Record<'a>, Cut>;
+
+    ghost remaining = { λ s. at_most (length s.0.now) };
+
+    fn next(&mut self) -> Option<Result<Record<'a>, Cut>> {
+        if self.0.is_empty() {
+            return None;
+        }
+        let (record, rest) = match Record::first(self.0) {
+            Some((record, rest)) => (Ok(record), rest),
+            None => (Err(Cut), &self.0[..0]),
+        };
+        self.0 = rest;
+        Some(record)
+    }
+}
+
+pub fn run_records<W: Write, F: Fn(&mut W, Record<'_>) -> io::Result<()>>(
+    out: &mut W,
     file: &[u8],
-    more: &[u8],
-) -> io::Result<()> {
-    match kind {
-        Kind::Leaf(call) => leaf_calls::run(out, call, numbers, file),
-        Kind::Front(call) => front_calls::run(out, call, numbers, file, more),
-        Kind::Strict(call) => strict_calls::run(out, call, numbers, file, more),
-        Kind::Patchy => patchy_calls::run(out, numbers, file, more),
-        Kind::Receiver(message) => receiver_calls::run(out, message, numbers, file, more),
-    }
-}
-
-// Takes apart what follows the head, and writes the line.
-fn run_parts(out: &mut impl Write, kind: Kind, head: &[u8], rest: &[u8]) -> io::Result<()> {
-    let tag = records::least(TAG, head.len());
-    let n = records::least(records::num(head, TAG + 8), rest.len());
-    let parts = &rest[n..];
-    let m = records::least(records::num(head, TAG + 16), parts.len());
-    say(out, &head[0..tag])?;
-    run(out, kind, &rest[0..n], &parts[0..m], &parts[m..])?;
-    say(out, b"\n")
-}
-
-// The record at a place: its line, and where the next one starts. A file that ends inside it shows as a line of its own.
-fn run_record(out: &mut impl Write, kind: Kind, file: &[u8], at: usize) -> io::Result<usize>
-    requires { at < length file.now }
-    ensures { IfOk result (λ n. (at < n) × (n ≤ length file.now)) }
+    call: &F,
+) -> io::Result<()>
+    requires { F.IsAlwaysCallable call.now }
 {
-    if file.len() - at < HEAD {
-        say(out, b"cut\n")?;
-        return Ok(file.len());
-    }
-    let from = at + HEAD;
-    let head = &file[at..from];
-    let n = records::num(head, TAG);
-    if file.len() - from < n {
-        say(out, b"cut\n")?;
-        return Ok(file.len());
-    }
-    let to = from + n;
-    run_parts(out, kind, head, &file[from..to])?;
-    Ok(to)
-}
-
-pub fn run_records(out: &mut impl Write, kind: Kind, file: &[u8]) -> io::Result<()> {
-    let mut at: usize = 0;
-    while at < file.len() {
-        at = run_record(out, kind, file, at)?;
+    for record in Records(file) {
+        match record {
+            Ok(record) => {
+                out.write_all(record.tag)?;
+                call(out, record)?;
+                writeln!(out)?;
+            }
+            Err(Cut) => writeln!(out, "cut")?,
+        }
     }
     Ok(())
 }
