@@ -9,9 +9,8 @@ use native.Mathlib.Numerals.{add-one}
 use lib.Dec.{eqb}
 use borrow.Author.Rules.{rules}
 use borrow.Author.Tests.{eq-eqb, ne_eqb}
-use Rattle.checks.specs.Numbers.{truncated, unsupported, not_arrived}
+use Rattle.checks.specs.Numbers.{truncated, unsupported, not_arrived, no_refusal}
 use Rattle.checks.specs.Checks.{Check, must, verdict}
-use Rattle.checks.specs.declared.Verdict.TheVariants as VerdictIs
 use Rattle.checks.proofs.Exact.{verdict_then, verdict_stops}
 use Rattle.seen.specs.Seen.{Seen, there}
 use Rattle.entries.specs.Values.{size_of, place_of, value_at, value_is}
@@ -19,6 +18,7 @@ use Rattle.entries.specs.declared.Value.{Value}
 use Rattle.entries.specs.declared.Value.TheVariants.{Outside, Missing, Number}
 use Rattle.entries.proofs.EntryValues.{value_verdict, value_verdict_lem, value_is_lem}
 use Rattle.profile.specs.Profile.{each_is}
+use Rattle.std.specs.Prelude.{Err}
 
 -- the loop: the values before i passed
 pub record Matching (v : Seen) (big : Bool) (n e wanted i : ℕ) : Type 0 where
@@ -39,11 +39,11 @@ module _ (v : Seen) (big : Bool) (n e wanted i : ℕ) (p : Matching v big n e wa
     unfolding each_is bytes others
     opened = let m : n - i ≡ suc (n - suc i) = omega arith in p.same ∙ rw m
 
-    pub value_outside : r ≡ Outside → VerdictIs.Refused truncated ≡ verdict (each_is v big e wanted 0 n)
+    pub value_outside : r ≡ Outside → Err truncated ≡ verdict (each_is v big e wanted 0 n)
     unfolding bytes
     value_outside q = sym (opened ∙ verdict_stops bytes others truncated (value_verdict_lem v big e i er ∙ ap value_verdict q))
 
-    pub value_missing : r ≡ Missing → VerdictIs.Refused not_arrived ≡ verdict (each_is v big e wanted 0 n)
+    pub value_missing : r ≡ Missing → Err not_arrived ≡ verdict (each_is v big e wanted 0 n)
     unfolding bytes
     value_missing q = sym (opened ∙ verdict_stops bytes others not_arrived (value_verdict_lem v big e i er ∙ ap value_verdict q))
 
@@ -52,7 +52,7 @@ module _ (v : Seen) (big : Bool) (n e wanted i : ℕ) (p : Matching v big n e wa
       unfolding bytes
       value_there = opened ∙ verdict_then bytes others (value_verdict_lem v big e i er ∙ ap value_verdict q)
 
-      pub value_other : (x ≡ wanted → ⊥) → VerdictIs.Refused unsupported ≡ verdict (each_is v big e wanted 0 n)
+      pub value_other : (x ≡ wanted → ⊥) → Err unsupported ≡ verdict (each_is v big e wanted 0 n)
       unfolding verdict others
       value_other d = sym (value_there ∙ rw (← value_is_lem v big e i er x q, ne_eqb x wanted d))
 
@@ -60,7 +60,7 @@ module _ (v : Seen) (big : Bool) (n e wanted i : ℕ) (p : Matching v big n e wa
       unfolding verdict others
       value_wanted d = record { same = value_there ∙ rw (← value_is_lem v big e i er x q, eq-eqb x wanted d, add-one i) }
 
-  pub all_wanted : n ≤ i → VerdictIs.Fine ≡ verdict (each_is v big e wanted 0 n)
+  pub all_wanted : n ≤ i → no_refusal ≡ verdict (each_is v big e wanted 0 n)
   unfolding verdict each_is
   all_wanted h = let m : n - i ≡ 0 = omega arith in sym (p.same ∙ rw m)
 

@@ -6,8 +6,6 @@ use mathlib.Core.Bool.{Bool, true, false}
 use borrow.Author.Rules.{rules}
 use borrow.Author.Tests.{eq-eqb, ne_eqb, not-true, not-false}
 use Rattle.checks.specs.Checks.{Check, must, verdict}
-use Rattle.checks.specs.declared.Verdict.{Verdict}
-use Rattle.checks.specs.declared.Verdict.TheVariants as VerdictIs
 use Rattle.checks.proofs.Rules.{refuse, allow, all_fine}
 use Rattle.seen.specs.Seen.{Seen, There}
 use Rattle.seen.proofs.Blocks.{true_false}
@@ -16,6 +14,8 @@ use Rattle.tags.proofs.Entries.{entry_is_there}
 use Rattle.entries.specs.Values.{count_at, has_values}
 use Rattle.profile.specs.Profile.{carries}
 use Rattle.profile.proofs.Carried.{carries_is}
+use Rattle.checks.specs.Numbers.{Verdict}
+use Rattle.std.specs.Prelude.{Err}
 
 -- an entry that is to have so many values
 module _ (v : Seen) (big : Bool) (e n : ℕ) where
@@ -35,7 +35,7 @@ module _ (v : Seen) (big : Bool) (e n : ℕ) where
 
 -- a test that a call answered
 module _ (b : Bool) (e : ℕ) (cs : List Check) {r : Bool} (q : r ≡ b) where
-  pub refuse_told : r ≡ false → VerdictIs.Refused e ≡ verdict (must b e ∷ cs)
+  pub refuse_told : r ≡ false → Err e ≡ verdict (must b e ∷ cs)
   refuse_told f = refuse b e cs (sym q ∙ f)
 
   pub allow_told : {t : Verdict} → r ≡ true → t ≡ verdict cs → t ≡ verdict (must b e ∷ cs)

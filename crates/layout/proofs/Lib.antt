@@ -1,3 +1,2 @@
 pub mod HeadKinds
-pub mod Shapes
 pub mod Sizes

@@ -10,8 +10,6 @@ use borrow.Author.Tests.{ltb-true}
 use Rattle.lists.specs.Lists.{pick}
 use Rattle.head.specs.Heads.{Head, channels_of}
 use Rattle.checks.specs.Checks.{Check, verdict, Holds}
-use Rattle.checks.specs.declared.Verdict.{Verdict}
-use Rattle.checks.specs.declared.Verdict.TheVariants as VerdictIs
 use Rattle.checks.proofs.Exact.{fine, holds_then, verdict_then, verdict_stops}
 use Rattle.seen.specs.Seen.{Seen}
 use Rattle.tags.specs.Slots.{strip_offsets, strip_byte_counts, tile_offsets, tile_byte_counts, extra_samples, entry_in}
@@ -28,13 +26,15 @@ use Rattle.layout.specs.Inner.{counted_of}
 use Rattle.profile.proofs.Accepted.{profile_split}
 use Rattle.layout.specs.declared.Counted.{Counted}
 use Rattle.layout.specs.declared.Counted.TheVariants as CountedIs
+use Rattle.checks.specs.Numbers.{Verdict, no_refusal}
+use Rattle.std.specs.Prelude.{Ok, Err}
 
 -- some steps before others: refused, they are the answer; passed, the others go on
 module _ (all a b : List Check) (split : all ≡ a ++ b) (f : Format) {r : Verdict} (er : r ≡ verdict a) where
-  refused_by : (e : ℕ) → r ≡ VerdictIs.Refused e → Refused e ≡ profiled (verdict all) f
+  refused_by : (e : ℕ) → r ≡ Err e → Refused e ≡ profiled (verdict all) f
   refused_by e q = rw (split, verdict_stops a b e (sym er ∙ q))
 
-  passed_by : {p : Profile} → r ≡ VerdictIs.Fine → p ≡ profiled (verdict b) f → p ≡ profiled (verdict all) f
+  passed_by : {p : Profile} → r ≡ no_refusal → p ≡ profiled (verdict b) f → p ≡ profiled (verdict all) f
   passed_by q k = rw (split, verdict_then a b (sym er ∙ q)) k
 
 -- what the numbers of step 7 say of its checks
@@ -42,23 +42,23 @@ counted_refused : (e a n o : ℕ) → CountedIs.Refused e ≡ CountedIs.Sizes a 
 counted_refused e a n o q = let z : ◌≡◌ {A = ℕ} 0 1 = cc in omega arith
 
 record Sized (s : Shape) (ms mo a n o : ℕ) : Type 0 where
-  passed : verdict (step7 s ms mo) ≡ VerdictIs.Fine
+  passed : verdict (step7 s ms mo) ≡ no_refusal
   across_is : a ≡ across_of s
   segments_are : n ≡ segments_of s
   output_is : o ≡ output_of s
 
 module _ (s : Shape) (ms mo : ℕ) where
-  size_refused : (e : ℕ) (t : Verdict) → verdict (step7 s ms mo) ≡ t → counted_of s ms mo ≡ CountedIs.Refused e → t ≡ VerdictIs.Refused e
+  size_refused : (e : ℕ) (t : Verdict) → verdict (step7 s ms mo) ≡ t → counted_of s ms mo ≡ CountedIs.Refused e → t ≡ Err e
   unfolding counted_of
-  size_refused e VerdictIs.Fine t h = absurd (counted_refused e _ _ _ (sym (rw t at h)))
-  size_refused e (VerdictIs.Refused m) t h = let k : CountedIs.Refused m ≡ CountedIs.Refused e = rw t at h in cc
+  size_refused e (Ok x) t h = absurd (counted_refused e _ _ _ (sym (rw t at h)))
+  size_refused e (Err m) t h = let k : CountedIs.Refused m ≡ CountedIs.Refused e = rw t at h in cc
 
   sized : (a n o : ℕ) (t : Verdict) → verdict (step7 s ms mo) ≡ t → counted_of s ms mo ≡ CountedIs.Sizes a n o → Sized s ms mo a n o
   unfolding counted_of
-  sized a n o VerdictIs.Fine t h =
+  sized a n o (Ok x) t h =
       let k : CountedIs.Sizes (across_of s) (segments_of s) (output_of s) ≡ CountedIs.Sizes a n o = rw t at h in
       record { passed = t; across_is = cc; segments_are = cc; output_is = cc }
-  sized a n o (VerdictIs.Refused m) t h = absurd (counted_refused m a n o (rw t at h))
+  sized a n o (Err m) t h = absurd (counted_refused m a n o (rw t at h))
 
 -- one of two numbers, as the code took it
 pub chosen : {P Q : Type 0} {t : Bool} {x a b : ℕ} → ((P × (x ≡ a)) ⊎ (Q × (x ≡ b))) → (P → t ≡ true) → (Q → t ≡ false) → x ≡ pick t a b
@@ -91,7 +91,7 @@ module _ (v : Seen) (big : Bool) (entries : ℕ) (slots : List ℕ) (s : Shape) 
         lists_told : verdict (from7 v big slots s l) ≡ t
         lists_told = ap verdict split_7 ∙ verdict_then seven eight now_sized.passed ∙ rw (← eo, ← ec, ← now_sized.segments_are) (sym et)
 
-        pub lists_refused : (e : ℕ) → t ≡ VerdictIs.Refused e → Refused e ≡ found_from7 v big entries slots s l
+        pub lists_refused : (e : ℕ) → t ≡ Err e → Refused e ≡ found_from7 v big entries slots s l
         lists_refused e f = rw (lists_told, f)
 
         abbrev read : Format
@@ -111,7 +111,7 @@ module _ (v : Seen) (big : Bool) (entries : ℕ) (slots : List ℕ) (s : Shape) 
           mono = s.mono;
         }
 
-        pub lists_fine : t ≡ VerdictIs.Fine → Picture read ≡ found_from7 v big entries slots s l
+        pub lists_fine : t ≡ no_refusal → Picture read ≡ found_from7 v big entries slots s l
         unfolding format_with
         lists_fine f = rw (lists_told, f, eo, ec, now_sized.across_is, now_sized.segments_are, now_sized.output_is)
 
@@ -126,7 +126,7 @@ module _ (v : Seen) (slots : List ℕ) (t : SlotsThere v slots) where
   counts_there false cs e = rw e (t.at_slot strip_byte_counts)
 
 -- step 2 passed, so the picture has sides
-pub sided : (n : Numbers) (extra most : ℕ) {r : Verdict} → r ≡ verdict (number_checks n extra most) → r ≡ VerdictIs.Fine → Sided n
+pub sided : (n : Numbers) (extra most : ℕ) {r : Verdict} → r ≡ verdict (number_checks n extra most) → r ≡ no_refusal → Sided n
 unfolding number_checks step2 Holds
 sided n extra most e q =
     let k = (holds_then (step2 n most) (step3 n extra) ((fine (number_checks n extra most)).0 (sym e ∙ q))).0 in
@@ -134,7 +134,7 @@ sided n extra most e q =
 
 -- step 5 passed, so a block has sides
 pub sound : (n : Numbers) (tiled : Bool) (s : Shape) (slots : List ℕ) {r : Verdict} → Sided n → s ≡ shape_of n tiled → r ≡ verdict (layout_checks s slots)
-    → r ≡ VerdictIs.Fine → SoundShape s
+    → r ≡ no_refusal → SoundShape s
 unfolding layout_checks step5 shape_of Holds
 sound n tiled s slots has is e q =
     let k = (holds_then (step5 s) (step6 s slots) ((fine (layout_checks s slots)).0 (sym e ∙ q))).0 in
@@ -154,12 +154,12 @@ module _ (v : Seen) (big : Bool) (entries : ℕ) (slots : List ℕ) (n : Numbers
   unfolding from5 layout_checks
   split_5 = rw (← es) (sym (append_assoc (step5 s) (step6 s slots) (from7 v big slots s l)))
 
-  pub layout_refused : (e : ℕ) → r ≡ VerdictIs.Refused e → Refused e ≡ found_from5 v big entries slots n l
+  pub layout_refused : (e : ℕ) → r ≡ Err e → Refused e ≡ found_from5 v big entries slots n l
   layout_refused =
       refused_by (from5 v big slots (shape_in slots n) l) (layout_checks s slots) (from7 v big slots s l) split_5
       (format_with big entries slots (shape_in slots n)) er
 
-  pub layout_fine : {p : Profile} → r ≡ VerdictIs.Fine → p ≡ found_from7 v big entries slots s l → p ≡ found_from5 v big entries slots n l
+  pub layout_fine : {p : Profile} → r ≡ no_refusal → p ≡ found_from7 v big entries slots s l → p ≡ found_from5 v big entries slots n l
   layout_fine q k =
       passed_by (from5 v big slots (shape_in slots n) l) (layout_checks s slots) (from7 v big slots s l) split_5
       (format_with big entries slots (shape_in slots n)) er q
@@ -184,18 +184,18 @@ module _ (v : Seen) (big : Bool) (entries : ℕ) (slots : List ℕ) (n : Numbers
   unfolding from2 number_checks
   split_2 = sym (append_assoc (step2 n l.max_dimension) (step3 n (entry_in slots extra_samples)) (four ++ five))
 
-  pub numbers_refused : (e : ℕ) → r ≡ VerdictIs.Refused e → Refused e ≡ found_from2 v big entries slots n l
+  pub numbers_refused : (e : ℕ) → r ≡ Err e → Refused e ≡ found_from2 v big entries slots n l
   numbers_refused = refused_by (from2 v big slots n l) two (four ++ five) split_2 given er
 
-  module _ (q : r ≡ VerdictIs.Fine) (head : Head) (eh : head ≡ head_in n) (samples : ℕ) (ec : samples ≡ channels_of head)
+  module _ (q : r ≡ no_refusal) (head : Head) (eh : head ≡ head_in n) (samples : ℕ) (ec : samples ≡ channels_of head)
       {t : Verdict} (told : t ≡ verdict (step4 v big samples slots)) where
     et : t ≡ verdict four
     et = rw (ec, eh) at told
 
-    pub samples_refused : (e : ℕ) → t ≡ VerdictIs.Refused e → Refused e ≡ found_from2 v big entries slots n l
+    pub samples_refused : (e : ℕ) → t ≡ Err e → Refused e ≡ found_from2 v big entries slots n l
     samples_refused e f = passed_by (from2 v big slots n l) two (four ++ five) split_2 given er q (refused_by (four ++ five) four five refl given et e f)
 
-    pub samples_fine : {p : Profile} → t ≡ VerdictIs.Fine → p ≡ found_from5 v big entries slots n l → p ≡ found_from2 v big entries slots n l
+    pub samples_fine : {p : Profile} → t ≡ no_refusal → p ≡ found_from5 v big entries slots n l → p ≡ found_from2 v big entries slots n l
     samples_fine f k = passed_by (from2 v big slots n l) two (four ++ five) split_2 given er q (passed_by (four ++ five) four five refl given et f k)
 
 -- step 1, then the rest
@@ -206,10 +206,10 @@ module _ (v : Seen) (big : Bool) (entries : ℕ) (slots : List ℕ) (l : Limits)
   abbrev found : Format
   found = format_with big entries slots (shape_in slots (numbers_of v big slots))
 
-  pub scalars_refused : (e : ℕ) → r ≡ VerdictIs.Refused e → Refused e ≡ profile_found v big entries slots l
+  pub scalars_refused : (e : ℕ) → r ≡ Err e → Refused e ≡ profile_found v big entries slots l
   scalars_refused = refused_by (profile_checks v big slots l) (step1 v big slots) others (profile_split v big slots l) found er
 
-  pub scalars_fine : (n : Numbers) {p : Profile} → r ≡ VerdictIs.Fine → n ≡ numbers_of v big slots → p ≡ found_from2 v big entries slots n l
+  pub scalars_fine : (n : Numbers) {p : Profile} → r ≡ no_refusal → n ≡ numbers_of v big slots → p ≡ found_from2 v big entries slots n l
       → p ≡ profile_found v big entries slots l
   scalars_fine n q en k =
       passed_by (profile_checks v big slots l) (step1 v big slots) others (profile_split v big slots l) found er q (rw en at k)

@@ -11,7 +11,6 @@ use borrow.Author.Tests.{lt-ltb, ltb-true, leb-true, eqb-true, eqb-false, le-leb
 use Rattle.lists.proofs.Lesser.{lesser_min}
 use Rattle.head.specs.Heads.{Head, colour_head, mono_head, bytes_of, channels_of, photometric_of}
 use Rattle.checks.specs.Checks.{verdict, Holds}
-use Rattle.checks.specs.declared.Verdict.TheVariants as VerdictIs
 use Rattle.checks.proofs.Exact.{fine, both}
 use Rattle.geometry.specs.Geometry.{most_side}
 use Rattle.seen.specs.Seen.{Seen}
@@ -26,6 +25,7 @@ use Rattle.profile.specs.Inner.{from7, from5, from2}
 use Rattle.profile.specs.declared.Numbers.{Numbers}
 use Rattle.profile.specs.declared.Shape.{Shape}
 use Rattle.profile.proofs.Carried.{lists_fine, samples_fine, scalars_fine}
+use Rattle.checks.specs.Numbers.{no_refusal}
 
 -- the eight steps are step 1 and those from 2 on, these 2 to 4 and those from 5 on, and these 5 and 6 and those from 7 on
 pub profile_split : (v : Seen) (big : Bool) (slots : List ℕ) (l : Limits)
@@ -295,7 +295,7 @@ module _ (v : Seen) (big : Bool) (slots : List ℕ) (l : Limits) where
         ),
       ))
 
-  pub profile_fine : (verdict (profile_checks v big slots l) ≡ VerdictIs.Fine) ↔ ProfileFine v big slots l
+  pub profile_fine : (verdict (profile_checks v big slots l) ≡ no_refusal) ↔ ProfileFine v big slots l
   profile_fine = Iff.trans (fine (profile_checks v big slots l)) profile_holds
 
 -- and the format of a fine profile is valid

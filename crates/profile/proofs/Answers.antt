@@ -1,4 +1,4 @@
--- The profile's tables against rules 3.1 and 2.10, and its answer: the number is that of the checks, which charge nothing.
+-- The profile's tables against rules 3.1 and 2.10, and its checks charge nothing.
 use Prim.Native.Nat.{ℕ}
 use mathlib.Core.Path.{◌≡◌, refl}
 use mathlib.Core.List.{List, [], ◌∷◌, ◌++◌, map}
@@ -7,15 +7,11 @@ use lib.ListN.{get_or}
 use lib.Dec.{eqb}
 use Rattle.lists.specs.Lists.{pick}
 use Rattle.head.specs.Heads.{Head, channels_of}
-use Rattle.checks.specs.Numbers.{verdict_number}
 use Rattle.checks.specs.Checks.{cost}
-use Rattle.checks.specs.declared.Verdict.{Verdict}
-use Rattle.checks.specs.declared.Verdict.TheVariants as VerdictIs
 use Rattle.seen.specs.Seen.{Seen}
 use Rattle.tags.specs.Slots.{tile_offsets, defaults, entry_in, present}
 use Rattle.header.specs.declared.Limits.{Limits}
-use Rattle.picture.specs.declared.Format.{Format}
-use Rattle.profile.specs.Profile.{scalars, scalar_checks, step2, step3, each_is, sample_checks, step4, step5, step6, step7, step8, numbers_of, head_in, shape_of, shape_in, profile_checks, profiled, profile_number}
+use Rattle.profile.specs.Profile.{scalars, scalar_checks, step2, step3, each_is, sample_checks, step4, step5, step6, step7, step8, numbers_of, head_in, shape_of, shape_in, profile_checks}
 use Rattle.profile.specs.Inner.{from7, from5}
 use Rattle.profile.specs.declared.Numbers.{Numbers}
 
@@ -34,11 +30,6 @@ scalar_slots_are = refl
 pub defaults_are : map (λ k. get_or defaults k 0) scalars ≡ map rule_default scalars
 unfolding scalars defaults
 defaults_are = refl
-
--- the number of an answer
-pub profile_number_lem : (r : Verdict) (f : Format) → profile_number (profiled r f) ≡ verdict_number r
-profile_number_lem VerdictIs.Fine f = refl
-profile_number_lem (VerdictIs.Refused e) f = refl
 
 -- the profile charges nothing
 blocks_free : (v : Seen) (big : Bool) (slots : List ℕ) (l : Limits) (n : Numbers) (t : Bool) → cost (from5 v big slots (shape_of n t) l) ≡ 0

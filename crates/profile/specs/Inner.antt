@@ -1,14 +1,15 @@
 -- What only the code's own functions ask for and leave: sides above 0, two steps that one function takes, and the steps from one on.
-use Rattle.std.specs.Prelude.{ℕ, ◌<◌, List, ◌++◌, Bool}
+use Rattle.std.specs.Prelude.{ℕ, ◌<◌, List, ◌++◌, Bool, Result}
 use Rattle.head.specs.Heads.{channels_of}
-use Rattle.checks.specs.Checks.{Check, verdict}
+use Rattle.checks.specs.Checks.{Check, verdict, giving}
 use Rattle.seen.specs.Seen.{Seen}
 use Rattle.tags.specs.Slots.{extra_samples, entry_in}
 use Rattle.header.specs.declared.Limits.{Limits}
-use Rattle.profile.specs.Profile.{step2, step3, step4, step5, step6, step7, step8, head_in, shape_in, offsets_in, counts_in, segments_of, profiled, format_with}
+use Rattle.profile.specs.Profile.{step2, step3, step4, step5, step6, step7, step8, head_in, shape_in, offsets_in, counts_in, segments_of, format_with}
 use Rattle.profile.specs.declared.Numbers.{Numbers}
 use Rattle.profile.specs.declared.Shape.{Shape}
-use Rattle.profile.specs.declared.Profile.{Profile}
+use Rattle.picture.specs.declared.Format.{Format}
+use Rattle.checks.specs.declared.Refusal.{Refusal}
 
 pub record Sided (n : Numbers) : Type 0 where
   pub some_width : 0 < n.width
@@ -45,11 +46,11 @@ module _ (v : Seen) (big : Bool) (slots : List ℕ) where
 
 -- and what these leave
 module _ (v : Seen) (big : Bool) (entries : ℕ) (slots : List ℕ) where
-  abbrev pub found_from7 : Shape → Limits → Profile
-  found_from7 s l = profiled (verdict (from7 v big slots s l)) (format_with big entries slots s)
+  abbrev pub found_from7 : Shape → Limits → Result Format Refusal
+  found_from7 s l = giving (verdict (from7 v big slots s l)) (format_with big entries slots s)
 
-  abbrev pub found_from5 : Numbers → Limits → Profile
-  found_from5 n l = profiled (verdict (from5 v big slots (shape_in slots n) l)) (format_with big entries slots (shape_in slots n))
+  abbrev pub found_from5 : Numbers → Limits → Result Format Refusal
+  found_from5 n l = giving (verdict (from5 v big slots (shape_in slots n) l)) (format_with big entries slots (shape_in slots n))
 
-  abbrev pub found_from2 : Numbers → Limits → Profile
-  found_from2 n l = profiled (verdict (from2 v big slots n l)) (format_with big entries slots (shape_in slots n))
+  abbrev pub found_from2 : Numbers → Limits → Result Format Refusal
+  found_from2 n l = giving (verdict (from2 v big slots n l)) (format_with big entries slots (shape_in slots n))

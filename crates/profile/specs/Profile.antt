@@ -1,12 +1,10 @@
 -- The profile (rules 3.1 to 3.8): its eight steps as one list of checks, from the top to the bottom, over what is seen of a file, its byte order, the
 -- slots of the page's directory and the limits; and the format of a picture that passes them.
-use Rattle.std.specs.Prelude.{ℕ, zero, suc, ◌*◌, ◌%◌, List, [], ◌∷◌, ◌++◌, Bool, ◌&&◌, ◌||◌, get_or, ltb, leb, eqb}
+use Rattle.std.specs.Prelude.{ℕ, zero, suc, ◌*◌, ◌%◌, List, [], ◌∷◌, ◌++◌, Bool, ◌&&◌, ◌||◌, get_or, ltb, leb, eqb, Result}
 use Rattle.lists.specs.Lists.{pick, lesser}
 use Rattle.head.specs.Heads.{Head, colour_head, mono_head, bytes_of, channels_of, photometric_of}
 use Rattle.checks.specs.Numbers.{invalid, unsupported, limit}
-use Rattle.checks.specs.Checks.{Check, must, verdict}
-use Rattle.checks.specs.declared.Verdict.{Verdict}
-use Rattle.checks.specs.declared.Verdict.TheVariants as VerdictIs
+use Rattle.checks.specs.Checks.{Check, must, verdict, giving}
 use Rattle.seen.specs.Seen.{Seen, there}
 use Rattle.tags.specs.Slots.{image_width, image_length, bits_per_sample, compression, photometric, fill_order, strip_offsets, orientation, samples_per_pixel, rows_per_strip, strip_byte_counts, planar_configuration, predictor, tile_width, tile_length, tile_offsets, tile_byte_counts, extra_samples, sample_format, defaults, entry_in, absent, present}
 use Rattle.entries.specs.Values.{has_values, size_of, scalar_of, place_of, value_at}
@@ -15,8 +13,7 @@ use Rattle.header.specs.declared.Limits.{Limits}
 use Rattle.picture.specs.declared.Format.{Format}
 use Rattle.profile.specs.declared.Numbers.{Numbers}
 use Rattle.profile.specs.declared.Shape.{Shape}
-use Rattle.profile.specs.declared.Profile.{Profile}
-use Rattle.profile.specs.declared.Profile.TheVariants.{Refused, Picture}
+use Rattle.checks.specs.declared.Refusal.{Refusal}
 
 -- an entry is present and has n values of type 3 or 4
 unfoldable pub carries : Seen → Bool → ℕ → ℕ → Bool
@@ -207,14 +204,6 @@ format_with big entries slots s = record {
 abbrev pub format_of : Seen → Bool → ℕ → List ℕ → Format
 format_of v big entries slots = format_with big entries slots (shape_in slots (numbers_of v big slots))
 
--- the answer: the first refusal, or the format; and its number, 0 where nothing is refused
-abbrev pub profiled : Verdict → Format → Profile
-profiled VerdictIs.Fine f = Picture f
-profiled (VerdictIs.Refused e) f = Refused e
-
-abbrev pub profile_found : Seen → Bool → ℕ → List ℕ → Limits → Profile
-profile_found v big entries slots l = profiled (verdict (profile_checks v big slots l)) (format_of v big entries slots)
-
-abbrev pub profile_number : Profile → ℕ
-profile_number (Picture f) = 0
-profile_number (Refused e) = e
+-- the answer: the first refusal, or the format
+abbrev pub profile_found : Seen → Bool → ℕ → List ℕ → Limits → Result Format Refusal
+profile_found v big entries slots l = giving (verdict (profile_checks v big slots l)) (format_of v big entries slots)

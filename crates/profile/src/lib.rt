@@ -1,10 +1,8 @@
-// What the profile speaks of: the numbers of the scalar slots, the shape of a picture and its blocks, and the answer.
+// What the profile speaks of: the numbers of the scalar slots, and the shape of a picture and its blocks.
 #![tactic(auto)]
 
-use picture::Format;
-
 // The numbers of the scalar slots that the profile looks at, by name.
-#[derive(Clone, Copy)]
+#[derive(Clone, Copy, Debug, PartialEq, Eq)]
 pub struct Numbers {
     pub width: usize,
     pub height: usize,
@@ -21,7 +19,7 @@ pub struct Numbers {
 }
 
 // The picture's sides and those of a block, and the head that made it.
-#[derive(Clone, Copy)]
+#[derive(Clone, Copy, Debug, PartialEq, Eq)]
 pub struct Shape {
     pub width: usize,
     pub height: usize,
@@ -29,10 +27,4 @@ pub struct Shape {
     pub block_height: usize,
     pub tiled: bool,
     pub mono: bool,
-}
-
-#[derive(Clone, Copy)]
-pub enum Profile {
-    Refused(u8),
-    Picture(Format),
 }

@@ -10,15 +10,15 @@ use lib.Dec.{ltb, ltb→lt}
 use borrow.Author.Rules.{rules}
 use borrow.Author.Tests.{eq-eqb, ne_eqb, not-true, not-false}
 use Rattle.lists.proofs.Table.{at}
-use Rattle.checks.specs.Numbers.{invalid}
+use Rattle.checks.specs.Numbers.{invalid, no_refusal}
 use Rattle.checks.specs.Checks.{verdict}
-use Rattle.checks.specs.declared.Verdict.TheVariants as VerdictIs
 use Rattle.seen.specs.Seen.{Seen}
 use Rattle.entries.specs.Values.{has_values, scalar_of}
 use Rattle.tags.specs.Slots.{image_width, image_length, compression, photometric, fill_order, orientation, samples_per_pixel, rows_per_strip, planar_configuration, predictor, tile_width, tile_length, defaults, entry_in}
 use Rattle.tags.proofs.Entries.{entry_is_there, slot_is_there}
 use Rattle.profile.specs.declared.Numbers.{Numbers}
 use Rattle.profile.specs.Profile.{scalars, scalar_fine, scalar_checks, step1, slot_number, numbers_of}
+use Rattle.std.specs.Prelude.{Err}
 
 -- each scalar slot is a slot, and each default has 32 bits
 pub slot_small : (i : ℕ) → i < 13 → get_or scalars i 0 < 19
@@ -92,7 +92,7 @@ module _ (v : Seen) (big : Bool) (slots : List ℕ) (i : ℕ) (p : Passing v big
     fine_is : r ≡ scalar_fine v big slots (get_or scalars i 0)
     fine_is = rw (← ek) er
 
-    pub slot_malformed : r ≡ false → VerdictIs.Refused invalid ≡ verdict (step1 v big slots)
+    pub slot_malformed : r ≡ false → Err invalid ≡ verdict (step1 v big slots)
     unfolding verdict scalar_checks
     slot_malformed f = sym (p.same ∙ rw (drop-cons scalars i 0 some_left, ← fine_is, f))
 
@@ -104,7 +104,7 @@ module _ (v : Seen) (big : Bool) (slots : List ℕ) (i : ℕ) (p : Passing v big
   unfolding scalars
   none_left h = h
 
-  pub all_passed : 13 ≤ i → VerdictIs.Fine ≡ verdict (step1 v big slots)
+  pub all_passed : 13 ≤ i → no_refusal ≡ verdict (step1 v big slots)
   unfolding verdict scalar_checks
   all_passed h = sym (p.same ∙ rw (drop_of_length-le scalars (none_left h)))
 

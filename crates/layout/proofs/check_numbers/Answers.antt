@@ -1,24 +1,12 @@
--- Step 2 ends the list where it refuses; where it passes, step 3 goes on.
-use Rattle.checks.proofs.Rules.{verdict_calls}
+-- Step 2, then step 3.
+use Rattle.checks.proofs.Rules.{handed_on, refused_first, fine_first}
 use Rattle.profile.specs.Inner.{number_checks}
 use Rattle.layout.proofs.check_numbers.Goals as goal
 
-pub check_kind-requires : goal.check_kind-requires
-check_kind-requires c = search verdict_calls
-
-pub enum_known-e : goal.enum_known-e
-enum_known-e c = search verdict_calls
-
-pub enum_told-1 : goal.enum_told-1
-enum_told-1 c = search verdict_calls
-
-pub check_plain-requires : goal.check_plain-requires
-check_plain-requires c = search verdict_calls
-
-pub returns-in-Refused : goal.returns-in-Refused
+pub returns-in_err-check_kind : goal.returns-in_err-check_kind
 unfolding number_checks
-returns-in-Refused c = search verdict_calls
+returns-in_err-check_kind c = handed_on c.from_residual.ensures.1 (refused_first _ _ c.in_err-check_kind.ensures)
 
-pub returns-in-Fine : goal.returns-in-Fine
+pub returns : goal.returns
 unfolding number_checks
-returns-in-Fine c = search verdict_calls
+returns c = fine_first _ _ c.in_ok-check_kind.ensures c.check_plain.ensures

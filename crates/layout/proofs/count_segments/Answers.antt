@@ -1,45 +1,31 @@
 -- The exact products are compared with the limits; one above 2^64-1 is above both.
-use Rattle.layout.proofs.Sizes.{sizes}
+use native.Mathlib.Omega.{arith}
+use Rattle.checks.proofs.Rules.{handed_on}
+use Rattle.layout.proofs.Sizes.{segments_over, segments_many, output_over, output_many, sizes_fine}
 use Rattle.layout.proofs.count_segments.Goals as goal
 
-pub pieces_of-across-requires : goal.pieces_of-across-requires
-pieces_of-across-requires c = search sizes
-
-pub pieces_of-down-requires : goal.pieces_of-down-requires
-pieces_of-down-requires c = search sizes
-
-pub product-requires : goal.product-requires
-product-requires c = search sizes
-
-pub enum_told-1 : goal.enum_told-1
-enum_told-1 c = search sizes
-
-pub enum_known-segments : goal.enum_known-segments
-enum_known-segments c = search sizes
+pub returns-in_err-segments : goal.returns-in_err-segments
+returns-in_err-segments c =
+    handed_on c.from_residual.ensures.1
+    (segments_over _ _ _ _ _ c.pieces_of-across.ensures.0 c.pieces_of-down.ensures.0 c.product.ensures c.in_err-segments.ensures.value (omega arith))
 
 pub returns-then-max_segments-segments : goal.returns-then-max_segments-segments
-returns-then-max_segments-segments c = search sizes
+returns-then-max_segments-segments c =
+    segments_many _ _ _ _ _ c.pieces_of-across.ensures.0 c.pieces_of-down.ensures.0 c.product.ensures c.in_ok-segments.ensures.value
+    c.if-max_segments-segments.true
 
-pub bytes_of-requires : goal.bytes_of-requires
-bytes_of-requires c = search sizes
-
-pub product3-requires : goal.product3-requires
-product3-requires c = search sizes
-
-pub enum_told-in-Over-product3 : goal.enum_told-in-Over-product3
-enum_told-in-Over-product3 c = search sizes
-
-pub enum_known-output : goal.enum_known-output
-enum_known-output c = search sizes
+pub returns-in_err-output : goal.returns-in_err-output
+returns-in_err-output c =
+    handed_on c.from_residual-in_err-output.ensures.1
+    (output_over _ _ _ _ _ c.pieces_of-across.ensures.0 c.pieces_of-down.ensures.0 c.product.ensures c.in_ok-segments.ensures.value
+    c.if-max_segments-segments.false c.bytes_of-size.ensures c.product3.ensures c.in_err-output.ensures.value (omega arith))
 
 pub returns-then-max_output-output : goal.returns-then-max_output-output
-returns-then-max_output-output c = search sizes
+returns-then-max_output-output c =
+    output_many _ _ _ _ _ c.pieces_of-across.ensures.0 c.pieces_of-down.ensures.0 c.product.ensures c.in_ok-segments.ensures.value
+    c.if-max_segments-segments.false c.bytes_of-size.ensures c.product3.ensures c.in_ok-output.ensures.value c.if-max_output-output.true
 
-pub returns-in-Over : goal.returns-in-Over
-returns-in-Over c = search sizes
-
-pub returns-in-Over-product3 : goal.returns-in-Over-product3
-returns-in-Over-product3 c = search sizes
-
-pub returns-else-max_output-output : goal.returns-else-max_output-output
-returns-else-max_output-output c = search sizes
+pub returns : goal.returns
+returns c =
+    sizes_fine _ _ _ _ _ c.pieces_of-across.ensures.0 c.pieces_of-down.ensures.0 c.product.ensures c.in_ok-segments.ensures.value
+    c.if-max_segments-segments.false c.bytes_of-size.ensures c.product3.ensures c.in_ok-output.ensures.value c.if-max_output-output.false
