@@ -6,6 +6,7 @@ use mathlib.Core.Bool.{Bool, true, false}
 use borrow.Author.Rules.{rules}
 use borrow.Author.Tests.{eq-eqb, ne_eqb, not-true, not-false}
 use Rattle.checks.specs.Checks.{Check, must, verdict}
+use Rattle.checks.specs.declared.Refusal.{Refusal}
 use Rattle.checks.proofs.Rules.{refuse, allow, all_fine}
 use Rattle.seen.specs.Seen.{Seen, There}
 use Rattle.seen.proofs.Blocks.{true_false}
@@ -34,7 +35,7 @@ module _ (v : Seen) (big : Bool) (e n : ℕ) where
   list_counted q h = (carries_is v big e n (sym q ∙ h)).as_many
 
 -- a test that a call answered
-module _ (b : Bool) (e : ℕ) (cs : List Check) {r : Bool} (q : r ≡ b) where
+module _ (b : Bool) (e : Refusal) (cs : List Check) {r : Bool} (q : r ≡ b) where
   pub refuse_told : r ≡ false → Err e ≡ verdict (must b e ∷ cs)
   refuse_told f = refuse b e cs (sym q ∙ f)
 

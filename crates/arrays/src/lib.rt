@@ -8,8 +8,7 @@ ghost use Rattle.tags.specs.Inner.{EntryThere, SlotsThere};
 ghost use Rattle.entries.specs.Values.{count_at};
 ghost use Rattle.profile.specs.Profile.{carries, each_is, sample_checks, step4, step8};
 
-use checks::{INVALID, NOT_ARRIVED, TRUNCATED, UNSUPPORTED, Verdict};
-use entries::Value;
+use checks::Refusal;
 use tags::{BITS_PER_SAMPLE, SAMPLE_FORMAT};
 
 // The values of an entry, in order: outside 1, not arrived 8, another number than wanted 3.
@@ -20,42 +19,29 @@ fn check_each(
     samples: usize,
     entry: usize,
     wanted: usize,
-) -> Verdict
+) -> Result<(), Refusal>
     requires { There (seen file.now map.now) entry 12 × (count_at (seen file.now map.now) big entry ≡ samples) }
     ensures { result ≡ verdict (each_is (seen file.now map.now) big entry wanted 0 samples) }
 {
-    let mut i: usize = 0;
-    while i < samples {
-        match entries::value_at(file, map, big, entry, i) {
-            Value::Outside => {
-                return Verdict::Refused(TRUNCATED);
-            }
-            Value::Missing => {
-                return Verdict::Refused(NOT_ARRIVED);
-            }
-            Value::Number(x) => {
-                if x != wanted {
-                    return Verdict::Refused(UNSUPPORTED);
-                }
-                i += 1;
-            }
+    for i in 0..samples {
+        if entries::value_at(file, map, big, entry, i)? != wanted {
+            return Err(Refusal::Unsupported);
         }
     }
-    Verdict::Fine
+    Ok(())
 }
 
 // Whether an entry is present and has n values of type 3 or 4.
+#[tactic(auto, using(crate::proofs::Steps::arrays))]
 fn is_list(file: &[u8], map: &[u8], big: bool, entry: usize, n: usize) -> bool
     requires { EntryThere (seen file.now map.now) entry }
     ensures { result ≡ carries (seen file.now map.now) big entry n }
 {
-    if entry == 0 {
-        return false;
-    }
-    entries::has_values(file, map, big, entry, n)
+    entry != 0 && entries::has_values(file, map, big, entry, n)
 }
 
 // A value for each sample, all of one number.
+#[tactic(auto, using(crate::proofs::Steps::arrays), unfolding(profile::specs::Profile::sample_checks))]
 fn check_samples(
     file: &[u8],
     map: &[u8],
@@ -63,14 +49,14 @@ fn check_samples(
     samples: usize,
     entry: usize,
     wanted: usize,
-) -> Verdict
+) -> Result<(), Refusal>
     requires { EntryThere (seen file.now map.now) entry }
     ensures { result ≡ verdict (sample_checks (seen file.now map.now) big samples entry wanted) }
 {
-    if is_list(file, map, big, entry, samples) {
-        return check_each(file, map, big, samples, entry, wanted);
+    if !is_list(file, map, big, entry, samples) {
+        return Err(Refusal::Unsupported);
     }
-    Verdict::Refused(UNSUPPORTED)
+    check_each(file, map, big, samples, entry, wanted)
 }
 
 // Step 4: for each sample 16 in slot 2, then 2 in slot 18.
@@ -80,17 +66,16 @@ pub fn check_depths(
     big: bool,
     samples: usize,
     slots: [usize; 19],
-) -> Verdict
+) -> Result<(), Refusal>
     requires { SlotsThere (seen file.now map.now) slots }
     ensures { result ≡ verdict (step4 (seen file.now map.now) big samples slots) }
 {
-    match check_samples(file, map, big, samples, slots[BITS_PER_SAMPLE], 16) {
-        Verdict::Refused(e) => Verdict::Refused(e),
-        Verdict::Fine => check_samples(file, map, big, samples, slots[SAMPLE_FORMAT], 2),
-    }
+    check_samples(file, map, big, samples, slots[BITS_PER_SAMPLE], 16)?;
+    check_samples(file, map, big, samples, slots[SAMPLE_FORMAT], 2)
 }
 
 // Step 8: offsets and counts, as many as segments.
+#[tactic(auto, using(crate::proofs::Steps::arrays), unfolding(profile::specs::Profile::step8))]
 pub fn check_lists(
     file: &[u8],
     map: &[u8],
@@ -98,15 +83,12 @@ pub fn check_lists(
     offsets: usize,
     counts: usize,
     segments: usize,
-) -> Verdict
+) -> Result<(), Refusal>
     requires { EntryThere (seen file.now map.now) offsets × EntryThere (seen file.now map.now) counts }
     ensures { result ≡ verdict (step8 (seen file.now map.now) big offsets counts segments) }
 {
-    if !is_list(file, map, big, offsets, segments) {
-        return Verdict::Refused(INVALID);
+    if !is_list(file, map, big, offsets, segments) || !is_list(file, map, big, counts, segments) {
+        return Err(Refusal::Invalid);
     }
-    if !is_list(file, map, big, counts, segments) {
-        return Verdict::Refused(INVALID);
-    }
-    Verdict::Fine
+    Ok(())
 }

@@ -1,31 +1,12 @@
--- Slot 2 ends the list where it refuses; where it passes, slot 18 goes on.
-use Rattle.tags.proofs.Entries.{slot_is_there}
-use Rattle.checks.proofs.Rules.{verdict_calls}
+-- The bits of the samples, then their format.
+use Rattle.checks.proofs.Rules.{handed_on, refused_first, fine_first}
 use Rattle.profile.specs.Profile.{step4}
 use Rattle.arrays.proofs.check_depths.Goals as goal
 
-pub bounds-slots-2 : goal.bounds-slots-2
-bounds-slots-2 c = search (slot_is_there, verdict_calls)
-
-pub check_samples-requires : goal.check_samples-requires
-check_samples-requires c = search (slot_is_there, verdict_calls)
-
-pub enum_known-e : goal.enum_known-e
-enum_known-e c = search (slot_is_there, verdict_calls)
-
-pub enum_told-1 : goal.enum_told-1
-enum_told-1 c = search (slot_is_there, verdict_calls)
-
-pub bounds-slots-18 : goal.bounds-slots-18
-bounds-slots-18 c = search (slot_is_there, verdict_calls)
-
-pub check_samples-requires-in-Fine : goal.check_samples-requires-in-Fine
-check_samples-requires-in-Fine c = search (slot_is_there, verdict_calls)
-
-pub returns-in-Refused : goal.returns-in-Refused
+pub returns-in_err-check_samples : goal.returns-in_err-check_samples
 unfolding step4
-returns-in-Refused c = search verdict_calls
+returns-in_err-check_samples c = handed_on c.from_residual.ensures.1 (refused_first _ _ c.in_err-check_samples.ensures)
 
-pub returns-in-Fine : goal.returns-in-Fine
+pub returns : goal.returns
 unfolding step4
-returns-in-Fine c = search verdict_calls
+returns c = fine_first _ _ c.in_ok-check_samples.ensures c.check_samples-2.ensures

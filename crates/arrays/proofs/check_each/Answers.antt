@@ -1,39 +1,17 @@
--- The values before the i-th passed; the first that does not is the refusal.
-use Rattle.arrays.proofs.Samples.{values}
+-- The values so far are those wanted; the first that is refused or another number ends the list.
+use native.Mathlib.Omega.{arith}
+use Rattle.checks.proofs.Rules.{handed_on}
+use Rattle.arrays.proofs.Samples.{value_stopped, value_other, value_wanted, all_wanted}
 use Rattle.arrays.proofs.check_each.Goals as goal
 
-pub loop-i-init : goal.loop-i-init
-loop-i-init c = search values
+pub returns-in_err-value_at : goal.returns-in_err-value_at
+returns-in_err-value_at c = handed_on c.from_residual.ensures.1 (value_stopped _ _ _ _ _ _ c.loop-i.invariant (omega arith) c.in_err-value_at.ensures)
 
-pub value_at-requires : goal.value_at-requires
-value_at-requires c = search values
-
-pub enum_told-1 : goal.enum_told-1
-enum_told-1 c = search values
-
-pub returns-in-Outside : goal.returns-in-Outside
-returns-in-Outside c = search values
-
-pub enum_told-in-Missing : goal.enum_told-in-Missing
-enum_told-in-Missing c = search values
-
-pub returns-in-Missing : goal.returns-in-Missing
-returns-in-Missing c = search values
-
-pub enum_known-x : goal.enum_known-x
-enum_known-x c = search values
-
-pub returns-then-x-wanted : goal.returns-then-x-wanted
-returns-then-x-wanted c = search values
-
-pub overflow_add-i : goal.overflow_add-i
-overflow_add-i c = search values
-
-pub loop-i-smaller : goal.loop-i-smaller
-loop-i-smaller c = search values
+pub returns-then-branch-wanted : goal.returns-then-branch-wanted
+returns-then-branch-wanted c = value_other _ _ _ _ _ _ c.loop-i.invariant (omega arith) c.in_ok-value_at.ensures c.if-branch-wanted.true
 
 pub loop-i-preserved : goal.loop-i-preserved
-loop-i-preserved c = search values
+loop-i-preserved c = value_wanted _ _ _ _ _ _ c.loop-i.invariant (omega arith) c.in_ok-value_at.ensures c.if-branch-wanted.false
 
 pub returns : goal.returns
-returns c = search values
+returns c = all_wanted _ _ _ _ _ _ c.loop-i.invariant (omega arith)

@@ -1,10 +1,6 @@
-use Rattle.arrays.proofs.Samples.{Matching}
-use Prim.Native.Nat.{◌-◌}
 use Rattle.seen.specs.Seen.{seen}
+use Rattle.arrays.proofs.Samples.{Matching}
 use Rattle.arrays.proofs.check_each.Given as goal
 
 abbrev pub invariant-loop-i : goal.invariant-loop-i
 invariant-loop-i l = Matching (seen l.file l.map) l.big l.samples l.entry l.wanted l.i
-
-abbrev pub decreases-loop-i : goal.decreases-loop-i
-decreases-loop-i l = l.samples - l.i

@@ -1,21 +1,9 @@
--- An absent slot has its default; an entry that is there has its single value.
-use Rattle.scalars.proofs.ScalarSlots.{scalar_rules}
+-- The default of a slot that is absent.
+use mathlib.Core.Path.{refl}
+use Rattle.tags.specs.Slots.{defaults}
+use Rattle.scalars.proofs.ScalarSlots.{number_absent, default_small}
 use Rattle.scalars.proofs.number_of.Goals as goal
 
-pub offset_bounds-slots-slot : goal.offset_bounds-slots-slot
-offset_bounds-slots-slot c = search scalar_rules
-
-pub bounds-slots-slot : goal.bounds-slots-slot
-bounds-slots-slot c = search scalar_rules
-
-pub default_of-requires : goal.default_of-requires
-default_of-requires c = search scalar_rules
-
-pub returns-then-entry-eq0 : goal.returns-then-entry-eq0
-returns-then-entry-eq0 c = search scalar_rules
-
-pub scalar-requires : goal.scalar-requires
-scalar-requires c = search scalar_rules
-
-pub returns : goal.returns
-returns c = search scalar_rules
+pub returns-then-slots-slot-eq0 : goal.returns-then-slots-slot-eq0
+unfolding defaults
+returns-then-slots-slot-eq0 c = (number_absent _ _ _ _ c.if-slots-slot-eq0.true refl, default_small _ c.requires.1)
