@@ -70,24 +70,24 @@ fn number_of(file: &[u8], map: &[u8], big: bool, slots: [usize; 19], slot: usize
     }
 }
 
-// The numbers by name.
+// The numbers by name. No closure stands for the repeated arguments, as what it promises is then known by names of the check alone.
+#[tactic(auto, using(crate::proofs::ScalarSlots::numbers_read))]
 pub fn read_numbers(file: &[u8], map: &[u8], big: bool, slots: [usize; 19]) -> Numbers
     requires { SlotsThere (seen file.now map.now) slots }
     ensures { result ≡ numbers_of (seen file.now map.now) big slots }
 {
-    let number = |slot: usize| number_of(file, map, big, slots, slot);
     Numbers {
-        width: number(IMAGE_WIDTH),
-        height: number(IMAGE_LENGTH),
-        compression: number(COMPRESSION),
-        photometric: number(PHOTOMETRIC),
-        fill_order: number(FILL_ORDER),
-        orientation: number(ORIENTATION),
-        samples: number(SAMPLES_PER_PIXEL),
-        strip_rows: number(ROWS_PER_STRIP),
-        planar: number(PLANAR_CONFIGURATION),
-        predictor: number(PREDICTOR),
-        tile_width: number(TILE_WIDTH),
-        tile_height: number(TILE_LENGTH),
+        width: number_of(file, map, big, slots, IMAGE_WIDTH),
+        height: number_of(file, map, big, slots, IMAGE_LENGTH),
+        compression: number_of(file, map, big, slots, COMPRESSION),
+        photometric: number_of(file, map, big, slots, PHOTOMETRIC),
+        fill_order: number_of(file, map, big, slots, FILL_ORDER),
+        orientation: number_of(file, map, big, slots, ORIENTATION),
+        samples: number_of(file, map, big, slots, SAMPLES_PER_PIXEL),
+        strip_rows: number_of(file, map, big, slots, ROWS_PER_STRIP),
+        planar: number_of(file, map, big, slots, PLANAR_CONFIGURATION),
+        predictor: number_of(file, map, big, slots, PREDICTOR),
+        tile_width: number_of(file, map, big, slots, TILE_WIDTH),
+        tile_height: number_of(file, map, big, slots, TILE_LENGTH),
     }
 }

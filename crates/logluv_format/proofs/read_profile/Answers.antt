@@ -1,24 +1,10 @@
 -- Step 1 ends the list where it refuses; where it passes, the others go on with the numbers that were read.
-use Rattle.logluv_format.proofs.Formats.{formats}
+use Rattle.checks.proofs.Rules.{handed_on}
+use Rattle.logluv_format.proofs.Formats.{scalars_refused, scalars_fine}
 use Rattle.logluv_format.proofs.read_profile.Goals as goal
 
-pub check_scalars-requires : goal.check_scalars-requires
-check_scalars-requires c = search formats
+pub returns-in_err-check_scalars : goal.returns-in_err-check_scalars
+returns-in_err-check_scalars c = handed_on c.from_residual.ensures.1 (scalars_refused _ _ _ _ _ c.in_err-check_scalars.ensures)
 
-pub enum_known-e : goal.enum_known-e
-enum_known-e c = search formats
-
-pub enum_told-1 : goal.enum_told-1
-enum_told-1 c = search formats
-
-pub read_numbers-n-requires : goal.read_numbers-n-requires
-read_numbers-n-requires c = search formats
-
-pub read_samples-requires : goal.read_samples-requires
-read_samples-requires c = search formats
-
-pub returns-in-Refused : goal.returns-in-Refused
-returns-in-Refused c = search formats
-
-pub returns-in-Fine : goal.returns-in-Fine
-returns-in-Fine c = search formats
+pub returns : goal.returns
+returns c = scalars_fine _ _ _ _ _ c.in_ok-check_scalars.ensures c.read_numbers-n.ensures c.read_samples.ensures

@@ -1,42 +1,20 @@
 -- Steps 2 and 3 end the list where they refuse, then step 4 does; where they pass, the picture has sides, and steps 5 to 8 go on.
-use Rattle.logluv_format.proofs.Formats.{formats}
+use Rattle.checks.proofs.Rules.{handed_on}
+use Rattle.logluv_format.proofs.Formats.{numbers_refused, samples_refused, samples_fine, sided}
 use Rattle.logluv_format.proofs.read_samples.Goals as goal
 
-pub bounds-slots-17 : goal.bounds-slots-17
-bounds-slots-17 c = search formats
+pub returns-in_err-check_numbers : goal.returns-in_err-check_numbers
+returns-in_err-check_numbers c = handed_on c.from_residual.ensures.1 (numbers_refused _ _ _ _ _ _ c.in_err-check_numbers.ensures)
 
-pub check_numbers-requires : goal.check_numbers-requires
-check_numbers-requires c = search formats
-
-pub enum_known-e : goal.enum_known-e
-enum_known-e c = search formats
-
-pub enum_told-1 : goal.enum_told-1
-enum_told-1 c = search formats
-
-pub is_mono-requires : goal.is_mono-requires
-is_mono-requires c = search formats
-
-pub channels_of-samples-requires : goal.channels_of-samples-requires
-channels_of-samples-requires c = search formats
-
-pub check_depths-requires : goal.check_depths-requires
-check_depths-requires c = search formats
-
-pub enum_known-e-in-Refused-check_depths : goal.enum_known-e-in-Refused-check_depths
-enum_known-e-in-Refused-check_depths c = search formats
-
-pub enum_told-in-Fine-check_depths : goal.enum_told-in-Fine-check_depths
-enum_told-in-Fine-check_depths c = search formats
+pub returns-in_err-check_depths : goal.returns-in_err-check_depths
+returns-in_err-check_depths c =
+    handed_on c.from_residual-in_err-check_depths.ensures.1
+    (samples_refused _ _ _ _ _ _ c.in_ok-check_numbers.ensures c.is_mono.ensures c.channels_of-samples.ensures c.in_err-check_depths.ensures)
 
 pub read_blocks-requires : goal.read_blocks-requires
-read_blocks-requires c = search formats
+read_blocks-requires c = (c.requires, sided _ _ _ c.in_ok-check_numbers.ensures)
 
-pub returns-in-Refused : goal.returns-in-Refused
-returns-in-Refused c = search formats
-
-pub returns-in-Refused-check_depths : goal.returns-in-Refused-check_depths
-returns-in-Refused-check_depths c = search formats
-
-pub returns-in-Fine-check_depths : goal.returns-in-Fine-check_depths
-returns-in-Fine-check_depths c = search formats
+pub returns : goal.returns
+returns c =
+    samples_fine _ _ _ _ _ _ c.in_ok-check_numbers.ensures c.is_mono.ensures c.channels_of-samples.ensures c.in_ok-check_depths.ensures
+    c.read_blocks.ensures
