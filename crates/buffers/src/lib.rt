@@ -15,7 +15,8 @@ pub fn filled<const N: usize>(byte: u8) -> [u8; N]
     [byte; N]
 }
 
-// Reads until the buffer is full, the input ends or a read fails, and then what came before it is in the buffer.
+// Reads until the buffer is full, the input ends or a read fails, and then what came before it is in the buffer. The place moves on by
+// what a read gave, for which no iterator stands.
 pub fn read_full(input: &mut impl Read, buffer: &mut [u8]) -> io::Result<usize>
     ensures { ReadsAtMost result buffer.new }
 {

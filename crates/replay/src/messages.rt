@@ -67,7 +67,7 @@ impl Progress {
     }
 }
 
-// Message after message, until no whole one is left.
+// Message after message, until no whole one is left. The place moves on by a message's size, and is part of the answer.
 #[tactic(auto, using(crate::proofs::Taking::taking))]
 pub fn take(bytes: &[u8], file: &mut [u8], map: &mut [u8], progress: Progress) -> Taken
     ensures size_in_bounds { result.size ≤ length bytes.now }

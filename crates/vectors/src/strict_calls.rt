@@ -44,7 +44,7 @@ pub fn decode(
 }
 
 // One field of a handle, or one of the limits, is changed, if any: they are counted from 1 in the order in which they stand here, but
-// the head is the last.
+// the head is the last. The number of a field stands in the record, and is no kind of the program's own.
 fn change(field: usize, value: usize, handle: &mut Handle, limits: &mut Limits) {
     match field {
         1 => handle.format.width = value,
