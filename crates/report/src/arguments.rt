@@ -1,5 +1,7 @@
 // The names that a program is given, and what it is to write by the ending of one.
-ghost use Rattle.std.specs.Prelude.{◌≤◌, IfOk, IfSome, length};
+ghost use Rattle.std.specs.Prelude.{◌≡◌, ◌↔◌, ◌≤◌, true, false, nat_eq, codes, IfOk, IfSome, IsNone, IsSome, length};
+ghost use Rattle.std.specs.List.{ends_with};
+ghost use Rattle.report.specs.declared.arguments.Kind.TheVariants.{Pgm, Png};
 
 use crate::complain::{Complained, Complaints};
 use std::env::FillError;
@@ -30,21 +32,21 @@ pub struct Target<'a> {
 }
 
 impl<'a> Target<'a> {
-    // By the ending of its name.
-    pub fn of(name: &'a [u8]) -> Option<Self> {
-        if name.ends_with(b".png") {
-            Some(Target {
-                name,
-                kind: Kind::Png,
-            })
+    // Its kind is told by the ending of its name.
+    pub fn of(name: &'a [u8]) -> Option<Self>
+        ensures same_name { IfSome result (λ target. target.name.now ≡ name.now) }
+        ensures other { IsNone result ↔ (ends_with nat_eq name.now (codes ".png") ≡ false) × (ends_with nat_eq name.now (codes ".pgm") ≡ false) }
+        ensures png { ends_with nat_eq name.now (codes ".png") ≡ true → IfSome result (λ target. target.kind ≡ Png) }
+        ensures pgm { IfSome result (λ target. target.kind ≡ Pgm → ends_with nat_eq name.now (codes ".pgm") ≡ true) }
+    {
+        let kind = if name.ends_with(b".png") {
+            Kind::Png
         } else if name.ends_with(b".pgm") {
-            Some(Target {
-                name,
-                kind: Kind::Pgm,
-            })
+            Kind::Pgm
         } else {
-            None
-        }
+            return None;
+        };
+        Some(Target { name, kind })
     }
 }
 
@@ -75,7 +77,9 @@ pub fn argument<'a>(
 pub fn target_of<'a>(
     complaints: &Complaints<impl Print>,
     name: Option<&'a [u8]>,
-) -> Result<Option<Target<'a>>, Complained> {
+) -> Result<Option<Target<'a>>, Complained>
+    ensures { IfOk result (λ target. IsSome target ↔ IsSome name.entry) }
+{
     name.map(|name| Target::of(name).ok_or_else(|| complaints.ending(name)))
         .transpose()
 }
