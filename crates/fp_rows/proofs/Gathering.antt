@@ -1,11 +1,10 @@
 -- A row gathered sample by sample: byte b of sample s, so many bytes each, comes from the place that the definition names for byte s * bytes + b.
-use Rattle.std.proofs.Common.{◌≡◌, ℕ, ◌+◌, ◌*◌, ◌/◌, ◌%◌, ◌<◌, ◌≤◌, ◌≢◌, Bool, List, length, get_or, set, sym, ◌∙◌, mul-div_cancel, arith, rules, below_more, get_or-set_same, get_or-set_other}
+use Rattle.std.proofs.Common.{◌≡◌, ℕ, ◌+◌, ◌*◌, ◌/◌, ◌%◌, ◌<◌, ◌≤◌, ◌≢◌, Bool, List, length, get_or, set, sym, ◌∙◌, mul-div_cancel, arith, below_more, get_or-set_same, get_or-set_other}
 use lib.Arith.{digits_div, digits_mod}
 use lib.Seq.{ext_get_or}
 use lib.ListN.{length-set}
 use Rattle.fp_rows.specs.FpRows.{plane, gathered_row}
 use Rattle.lists.proofs.Overlay.{length_span, get_d_tabulate}
-use Rattle.lists.proofs.Rows.{next_row}
 
 -- the place in a row of planes that byte k of the gathered row is taken from, and that byte
 abbrev pub source : Bool → ℕ → ℕ → ℕ → ℕ
@@ -19,13 +18,7 @@ pub record Gathering (row : List ℕ) (bytes : ℕ) (little : Bool) (out : List 
   pub long : length out ≡ length row
   pub done : (i : ℕ) → i < k → get_or out i 0 ≡ byte_at bytes little row i
 
-pub gathering_none : (row : List ℕ) (bytes : ℕ) (little : Bool) (out : List ℕ) → length out ≡ length row → Gathering row bytes little out 0
-gathering_none row bytes little out l = record { long = l; done = λ i h. absurd (omega arith) }
-
 module _ (row : List ℕ) (bytes : ℕ) (little : Bool) (out : List ℕ) where
-  pub gathering_same : (j k : ℕ) → Gathering row bytes little out j → j ≡ k → Gathering row bytes little out k
-  gathering_same j k g e = rw e at g
-
   pub gathering_more : (samples s b p : ℕ) → Gathering row bytes little out (s * bytes + b) → length row ≡ samples * bytes → b < bytes
       → s * bytes + b < length out
       → p ≡ plane little bytes b
@@ -46,5 +39,3 @@ module _ (row : List ℕ) (bytes : ℕ) (little : Bool) (out : List ℕ) where
   gathering_all k g h =
       ext_get_or 0 out _ (g.long ∙ sym (length_span _ 0 (length row)))
       (λ i l. g.done i (omega (arith, g.long)) ∙ sym (get_d_tabulate (byte_at bytes little row) (length row) i (rw g.long at l)))
-
-pub ruleset gathers = (gathering_none, gathering_same, gathering_more, gathering_all, next_row, rules)

@@ -17,6 +17,7 @@ pub fn expand_uv(x: u8) -> u16
     table::uv_table().uv(x)
 }
 
+#[tactic(auto, using(crate::proofs::Stores::pixel_stored))]
 pub fn put_pixel(d: &mut [u8], high: u8, low: u8, u: u8, v: u8, t: &Table)
     requires { length d.old ≡ 6 }
     ensures { d.new ≡ pixel high low u v }
@@ -42,6 +43,7 @@ struct Samples {
 }
 
 // Those of pixel k.
+#[tactic(auto, using(crate::proofs::Stores::samples_are))]
 fn samples_at(lights: &[u16], us: &[u8], vs: &[u8], k: usize, t: &Table) -> Samples
     requires { HasPixel k (length lights.now) (length us.now) (length vs.now) }
     ensures { six result ≡ light_pixel lights.now us.now vs.now k }

@@ -8,7 +8,7 @@ use borrow.Rule.Slice.PartMut.{mid_of, put_mid, mid_len}
 use lib.ListN.{length, drop, get_or}
 use lib.Seq.{get_or-take, get_or-drop}
 use Rattle.lists.specs.Lists.{joined}
-use Rattle.lists.proofs.Rows.{Even, Joining, joining_none, joining_exactly}
+use Rattle.lists.proofs.Rows.{Even, Joining, joining_exactly}
 use Rattle.head.specs.Heads.{colour_head}
 use Rattle.pixel.specs.Luv.{pixel, pixel_at}
 use Rattle.pixel.specs.Inner.{light_pixel}
@@ -32,9 +32,6 @@ even_lights lights us vs n i h = refl
 pub record Quartering (lights us vs old d : List ℕ) (i : ℕ) : Type 0 where
   pub asked : Fours (length lights) (length us) (length vs) (length old)
   pub joins : Joining (light_pixel lights us vs) 6 (length us) old d (4 * i) (24 * i)
-
-pub quartering_none : (lights us vs d : List ℕ) → Fours (length lights) (length us) (length vs) (length d) → Quartering lights us vs d d 0
-quartering_none lights us vs d a = record { asked = a; joins = joining_none (light_pixel lights us vs) 6 (length us) d (omega (arith, a.exact)) }
 
 -- four of the pixels, by parts of what they come from
 four_same : (lights us vs : List ℕ) (k j : ℕ) → j < 4

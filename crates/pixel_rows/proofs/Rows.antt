@@ -48,9 +48,6 @@ pub record Colours (w : ℕ) (row : List ℕ) (i n : ℕ) (old out : List ℕ) (
 pub colours_none : (w : ℕ) (row : List ℕ) (i n : ℕ) (out : List ℕ) → Within w i n (length row) (length out) → Colours w row i n out out 0
 colours_none w row i n out a = record { asked = a; joins = joining_none (λ j. pixel_at colour_head w row (i + j)) 6 n out (omega (arith, a.exact)) }
 
-pub row_within : (w n planes out : ℕ) → Convertible colour_head w n planes out → Within w 0 n planes out
-row_within w n planes out a = record { planes_in = a.planes_in; columns = omega (arith, a.columns); exact = a.exact }
-
 module _ (w : ℕ) (row : List ℕ) (i n : ℕ) (old out : List ℕ) (k : ℕ) (s : Colours w row i n old out k) where
   even : Even (λ j. pixel_at colour_head w row (i + j)) 6 n
   even j h = pixel_length colour_head w row (i + j)

@@ -17,7 +17,7 @@ fn put_lights(highs: &[u8], lows: &[u8], lights: &mut [u16])
     ensures { Lights highs.now lows.now lights.new (length highs.now) }
 {
     for i in 0..highs.len() {
-        lights[i] = u16::from_be_bytes([highs[i], lows[i]]);
+        lights[i] = u16::from_le_bytes([lows[i], highs[i]]);
     }
 }
 
@@ -137,6 +137,7 @@ fn mono_row(planes: &[u8], w: usize, n: usize, out: &mut [u8])
 }
 
 // The first n pixels of a row of planes of w bytes.
+#[tactic(auto, using(crate::proofs::Rows::heads))]
 pub fn convert_row(mono: bool, planes: &[u8], w: usize, n: usize, t: &Table, out: &mut [u8])
     requires { Convertible mono w n (length planes.now) (length out.old) }
     ensures { out.new ≡ row_pixels mono w n planes.now }

@@ -3,7 +3,7 @@ use Rattle.std.proofs.Common.{◌≡◌, ℕ, ◌+◌, ◌-◌, ◌*◌, ◌%◌
 use Rattle.std.proofs.lemmas.List.{drop-take, take-take}
 use native.Mathlib.Nat.{mul-le-mul_right}
 use borrow.Rule.Slice.PartMut.{mid_of, put_mid}
-use Rattle.lists.proofs.Rows.{Even, Joining, joining_none, joining_more, joining_exactly, joining_part, joined_length, row_fits}
+use Rattle.lists.proofs.Rows.{Even, Joining, joining_more, joining_exactly, joining_part, joined_length, row_fits}
 use Rattle.words64.specs.Words64.{digits, word}
 use Rattle.rows64.specs.Rows64.{value, sample, row64}
 use Rattle.rows64.specs.Inner.{RowFits}
@@ -26,10 +26,6 @@ row_length little predict w ch reset row = joined_length (bytes_of little predic
 pub record Sampling (little predict : Bool) (w ch reset : ℕ) (raw old out : List ℕ) (i : ℕ) : Type 0 where
   pub fits : RowFits w ch reset (length raw) (length old)
   pub joins : Joining (bytes_of little predict ch reset raw) 8 (w * ch) old out i (8 * i)
-
-pub sampling_none : (little predict : Bool) (w ch reset : ℕ) (raw out : List ℕ) → RowFits w ch reset (length raw) (length out)
-    → Sampling little predict w ch reset raw out out 0
-sampling_none little predict w ch reset raw out s = record { fits = s; joins = joining_none _ 8 (w * ch) out (omega (arith, s.room)) }
 
 module _ (little predict : Bool) (w ch reset : ℕ) (raw old out : List ℕ) (i : ℕ) (s : Sampling little predict w ch reset raw old out i) where
   -- all is written
