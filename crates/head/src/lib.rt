@@ -1,4 +1,5 @@
-// The two camera heads whose pictures are read, for colour and monochrome, and the numbers by which they differ.
+// The two camera heads whose pictures are read, for colour and monochrome, and the numbers by which they differ. A head is a bool and no enum, as
+// head/Heads.Head is, over which the theorems of promises/Heads speak.
 #![tactic(auto)]
 
 ghost use Rattle.std.specs.Prelude.{◌≡◌};

