@@ -8,33 +8,41 @@ ghost use Rattle.checks.specs.Buffers.{afterwards};
 ghost use Rattle.float64.specs.Float64.{samples, checks64};
 ghost use Rattle.float64.specs.Inner.{Fitting};
 
-use checks::{INVALID, LIMIT, OUTPUT_TOO_SMALL, Size, TRUNCATED, UNSUPPORTED, Verdict};
+use checks::Refusal;
 
+// Each row is turned by itself into the place of its number.
 fn convert_rows(
     raw: &[u8],
     w: usize,
     h: usize,
     ch: usize,
     reset: usize,
-    size: usize,
     little: bool,
     predict: bool,
     out: &mut [u8],
 )
-    requires { Fitting w h ch reset size (length raw.now) (length out.old) }
+    requires { Fitting w h ch reset (length raw.now) (length out.old) }
     ensures { out.new ≡ overlay (samples little predict w h ch reset raw.now) out.old }
 {
-    let mut y: usize = 0;
-    let mut at: usize = 0;
-    while y < h {
-        let e = at + size;
-        rows64::convert_row(&raw[at..e], w, ch, reset, little, predict, &mut out[at..e]);
-        at = e;
-        y += 1;
+    let size = w * (8 * ch);
+    for y in 0..h {
+        let at = y * size;
+        let end = at + size;
+        rows64::convert_row(
+            &raw[at..end],
+            w,
+            ch,
+            reset,
+            little,
+            predict,
+            &mut out[at..end],
+        );
     }
 }
 
+// The arguments come one by one, as C hands them over: a struct of them would be made at each of its few callers only to be read here.
 // Refused, in this order: channels with 3, a size of 0 with 2, too large with 4, raw short with 1, out short with 6.
+#[tactic(auto, using(checks::proofs::Rules::verdicts))]
 pub fn convert(
     raw: &[u8],
     w: usize,
@@ -44,37 +52,23 @@ pub fn convert(
     little: bool,
     predict: bool,
     out: &mut [u8],
-) -> Verdict
+) -> Result<(), Refusal>
     ensures answer { result ≡ verdict (checks64 w h ch reset (length raw.now) (length out.old)) }
     ensures buffer { out.new ≡ afterwards result (samples little predict w h ch reset raw.now) out.old }
 {
-    if ch == 0 {
-        return Verdict::Refused(UNSUPPORTED);
+    if ch == 0 || 4 < ch {
+        return Err(Refusal::Unsupported);
     }
-    if 4 < ch {
-        return Verdict::Refused(UNSUPPORTED);
+    if w == 0 || h == 0 || reset == 0 {
+        return Err(Refusal::Invalid);
     }
-    if w == 0 {
-        return Verdict::Refused(INVALID);
-    }
-    if h == 0 {
-        return Verdict::Refused(INVALID);
-    }
-    if reset == 0 {
-        return Verdict::Refused(INVALID);
-    }
-    let Size::Fits(row) = checks::product(w, 8 * ch) else {
-        return Verdict::Refused(LIMIT);
-    };
-    let Size::Fits(size) = checks::product(h, row) else {
-        return Verdict::Refused(LIMIT);
-    };
+    let size = checks::product3(h, w, 8 * ch).ok_or(Refusal::Limit)?;
     if raw.len() < size {
-        return Verdict::Refused(TRUNCATED);
+        return Err(Refusal::Truncated);
     }
     if out.len() < size {
-        return Verdict::Refused(OUTPUT_TOO_SMALL);
+        return Err(Refusal::OutputTooSmall);
     }
-    convert_rows(raw, w, h, ch, reset, row, little, predict, out);
-    Verdict::Fine
+    convert_rows(raw, w, h, ch, reset, little, predict, out);
+    Ok(())
 }

@@ -1,40 +1,48 @@
--- Each check in its order; the size by two products; then every row.
-use mathlib.Core.Path.{refl}
-use Rattle.float64.proofs.Accepted.{no_channel, many_channels, no_width, no_height, no_reset, row_too_large, too_large, raw_short, out_short, accepted, fitting}
+-- The size is the one of the checks, whether it is a number of 64 bits or not.
+use Prim.Native.Nat.{◌<◌, ◌≤◌}
 use native.Mathlib.Omega.{arith}
-use borrow.Author.Rules.{rules}
+use lib.ListN.{length}
+use Rattle.checks.proofs.Rules.{handed_on, verdicts}
+use Rattle.float64.specs.Float64.{size64}
+use Rattle.float64.proofs.Accepted.{size_known, size_over, no_number}
 use Rattle.float64.proofs.convert.Goals as goal
 
-pub returns-then-ch-eq0 : goal.returns-then-ch-eq0
-returns-then-ch-eq0 c = record { answer = search no_channel; buffer = refl }
+pub returns-in_err-size-clause-answer : goal.returns-in_err-size-clause-answer
+returns-in_err-size-clause-answer c =
+    let large = size_over c.args.w c.args.h c.args.ch c.product3.ensures c.in_err-size.ensures.ok_part in
+    handed_on c.from_residual.ensures.1 (no_number c.in_err-size.ensures.ok_part c.in_err-size.ensures.value (search verdicts))
 
-pub returns-then-ch-gt4 : goal.returns-then-ch-gt4
-returns-then-ch-gt4 c = record { answer = search many_channels; buffer = refl }
+pub returns-then-raw-size-clause-answer : goal.returns-then-raw-size-clause-answer
+returns-then-raw-size-clause-answer c =
+    let k = size_known c.args.w c.args.h c.args.ch c.product3.ensures _ c.in_ok-size.ensures.ok_part in
+    let small = k.small in
+    let short : length c.args.raw.now < size64 c.args.w c.args.h c.args.ch = omega (arith, k.is) in
+    search verdicts
 
-pub returns-then-w-eq0 : goal.returns-then-w-eq0
-returns-then-w-eq0 c = record { answer = search no_width; buffer = refl }
-
-pub returns-then-h-eq0 : goal.returns-then-h-eq0
-returns-then-h-eq0 c = record { answer = search no_height; buffer = refl }
-
-pub returns-then-reset-eq0 : goal.returns-then-reset-eq0
-returns-then-reset-eq0 c = record { answer = search no_reset; buffer = refl }
-
-pub returns-in_default : goal.returns-in_default
-returns-in_default c = record { answer = search row_too_large; buffer = refl }
-
-pub returns-in_default-product : goal.returns-in_default-product
-returns-in_default-product c = record { answer = search too_large; buffer = refl }
-
-pub returns-then-raw-size : goal.returns-then-raw-size
-returns-then-raw-size c = record { answer = search raw_short; buffer = refl }
-
-pub returns-then-out-size : goal.returns-then-out-size
-returns-then-out-size c = record { answer = search out_short; buffer = refl }
+pub returns-then-out-size-clause-answer : goal.returns-then-out-size-clause-answer
+returns-then-out-size-clause-answer c =
+    let k = size_known c.args.w c.args.h c.args.ch c.product3.ensures _ c.in_ok-size.ensures.ok_part in
+    let small = k.small in
+    let input : size64 c.args.w c.args.h c.args.ch ≤ length c.args.raw.now = omega (arith, k.is) in
+    let short : length c.args.out.now < size64 c.args.w c.args.h c.args.ch = omega (arith, k.is) in
+    search verdicts
 
 pub convert_rows-requires : goal.convert_rows-requires
-convert_rows-requires c = fitting _ _ _ _ _ _ (search rules) (omega arith) (search rules) (search rules) (search rules) _ c.product.ensures _ c.in-Fits.is
-    _ c.product-2.ensures _ c.in-Fits-product.is (omega arith) (omega arith)
+convert_rows-requires c =
+    let k = size_known c.args.w c.args.h c.args.ch c.product3.ensures _ c.in_ok-size.ensures.ok_part in
+    record {
+      some = omega arith;
+      channels = omega arith;
+      few = c.if-ch-gt4.false;
+      resets = omega arith;
+      input = omega (arith, k.is);
+      room = omega (arith, k.is);
+    }
 
-pub returns : goal.returns
-returns c = record { answer = search accepted; buffer = search rules }
+pub returns-clause-answer : goal.returns-clause-answer
+returns-clause-answer c =
+    let k = size_known c.args.w c.args.h c.args.ch c.product3.ensures _ c.in_ok-size.ensures.ok_part in
+    let small = k.small in
+    let input : size64 c.args.w c.args.h c.args.ch ≤ length c.args.raw.now = omega (arith, k.is) in
+    let room : size64 c.args.w c.args.h c.args.ch ≤ length c.args.out.now = omega (arith, k.is) in
+    search verdicts
