@@ -1,18 +1,19 @@
 // Rows of pixels: all rows of a segment put into a picture, and planes converted into a lent buffer.
 #![tactic(auto)]
 
-ghost use Rattle.std.specs.Prelude.{◌≡◌, ◌*◌, ◌<◌, length};
-ghost use Rattle.lists.specs.Lists.{overlay, spread};
+ghost use Rattle.std.specs.Prelude.{◌≡◌, length};
+ghost use Rattle.lists.specs.Lists.{spread};
 ghost use Rattle.checks.specs.Checks.{verdict};
 ghost use Rattle.checks.specs.Buffers.{afterwards};
 ghost use Rattle.pixel.specs.Luv.{pixels, row_shown};
 ghost use Rattle.luv.specs.Convert.{convert_checks};
-ghost use Rattle.luv.specs.Inner.{Roomy, Scatterable};
+ghost use Rattle.luv.specs.Inner.{Scatterable};
 
-use checks::{LIMIT, OUTPUT_TOO_SMALL, Size, TRUNCATED, Verdict};
+use checks::Refusal;
 
 // The first n pixels of each of so many rows of planes of width w, put into the picture: the first row at `first`, each further
 // one a pitch later.
+#[tactic(auto, using(crate::proofs::Scattering::scatters))]
 pub fn scatter(
     mono: bool,
     planes: &[u8],
@@ -26,67 +27,47 @@ pub fn scatter(
     requires { Scatterable mono w n rows first pitch (length planes.now) (length out.old) }
     ensures { out.new ≡ spread (row_shown mono w n planes.now) pitch 0 rows first out.old }
 {
-    let t = pixel::table::uv_table();
-    let step = head::planes_of(mono) * w;
-    let size = head::bytes_of(mono) * n;
-    let mut r: usize = 0;
-    let mut from: usize = 0;
-    let mut at = first;
-    while r < rows {
-        let from_end = from + step;
-        let end = at + size;
-        pixel_rows::convert_row(mono, &planes[from..from_end], w, n, &t, &mut out[at..end]);
-        from = from_end;
-        at += pitch;
-        r += 1;
-    }
-}
-
-fn convert_rows(mono: bool, planes: &[u8], w: usize, rows: usize, out: &mut [u8])
-    requires { Roomy mono w rows (length planes.now) (length out.old) }
-    ensures { out.new ≡ overlay (pixels mono w rows planes.now) out.old }
-{
-    let t = pixel::table::uv_table();
-    let from_step = head::planes_of(mono) * w;
-    let to_step = head::bytes_of(mono) * w;
-    let mut r: usize = 0;
-    let mut from: usize = 0;
-    let mut to: usize = 0;
-    while r < rows {
-        let from_end = from + from_step;
-        let to_end = to + to_step;
+    let table = pixel::table::uv_table();
+    for r in 0..rows {
+        let step = head::planes_of(mono) * w;
+        let size = head::bytes_of(mono) * n;
+        let from = r * step;
+        let at = first + r * pitch;
         pixel_rows::convert_row(
             mono,
-            &planes[from..from_end],
+            &planes[from..from + step],
             w,
-            w,
-            &t,
-            &mut out[to..to_end],
+            n,
+            &table,
+            &mut out[at..at + size],
         );
-        from = from_end;
-        to = to_end;
-        r += 1;
     }
 }
 
 // Refused, in this order: more than 2^64-1 bytes of pixels with 4, planes short with 1, out short with 6.
-pub fn convert(mono: bool, planes: &[u8], w: usize, rows: usize, out: &mut [u8]) -> Verdict
+#[tactic(auto, using(checks::proofs::Rules::verdicts))]
+pub fn convert(
+    mono: bool,
+    planes: &[u8],
+    w: usize,
+    rows: usize,
+    out: &mut [u8],
+) -> Result<(), Refusal>
     ensures answer { result ≡ verdict (convert_checks mono w rows (length planes.now) (length out.old)) }
     ensures buffer { out.new ≡ afterwards result (pixels mono w rows planes.now) out.old }
 {
-    let Size::Fits(size) = checks::product3(rows, head::bytes_of(mono), w) else {
-        return Verdict::Refused(LIMIT);
-    };
+    let size = checks::product3(rows, head::bytes_of(mono), w).ok_or(Refusal::Limit)?;
     // No pixels, in however many rows.
     if size == 0 {
-        return Verdict::Fine;
+        return Ok(());
     }
     if planes.len() < head::planes_of(mono) * (rows * w) {
-        return Verdict::Refused(TRUNCATED);
+        return Err(Refusal::Truncated);
     }
     if out.len() < size {
-        return Verdict::Refused(OUTPUT_TOO_SMALL);
+        return Err(Refusal::OutputTooSmall);
     }
-    convert_rows(mono, planes, w, rows, out);
-    Verdict::Fine
+    // The rows of a picture of just this width, one right after the other.
+    scatter(mono, planes, w, w, rows, 0, head::bytes_of(mono) * w, out);
+    Ok(())
 }

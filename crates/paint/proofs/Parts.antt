@@ -65,9 +65,7 @@ module _ (f : Format) (k planes : ℕ) (whole : needed_of f k ≤ planes) where
   visible_scatters out valid room =
       record {
         columns = omega (arith, columns_are f k);
-        width_allowed = valid.block_width_allowed;
         planes_in = omega (arith, rows_whole, mul-le-mul_right (planes_of f.mono * f.block_width) (rows_had f k));
-        pitch_in = omega (arith, pitch_inside f k valid);
         rows_in = λ r h. omega (arith, visible_inside f k valid r h);
       }
 
