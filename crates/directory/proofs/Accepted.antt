@@ -79,7 +79,8 @@ module _ (v : Seen) (big : Bool) (at : ℕ) where
 
       by : (a b c : Bool) → ltb slot 19 ≡ a → eqb type 0 ≡ b → eqb earlier 0 ≡ c → not a || (not b && c) ≡ true → Stands i
       by false b c p q r e = record { has_type = λ k z. omega (arith, ltb-false slot 19 p); is_first = λ k j l z. omega (arith, ltb-false slot 19 p) }
-      by true false true p q r e = record { has_type = λ k. eqb-false type 0 q; is_first = λ k. absent_if v big at (tag_of v big at i) i (eqb-true earlier 0 r) }
+      by true false true p q r e =
+          record { has_type = λ k. eqb-false type 0 q; is_first = λ k. absent_if v big at (tag_of v big at i) i (eqb-true earlier 0 r) }
       by true false false p q r e = absurd (true_false e refl)
       by true true c p q r e = absurd (true_false e refl)
 

@@ -79,7 +79,8 @@ module _ (v : Seen) (big : Bool) (maxTags at left : ℕ) where
 
   pub directory_uncounted : {e : Refusal} {r : Refused} → Err e ≡ counted v big maxTags at → r ≡ leaving e left → Err r ≡ answer
   directory_uncounted {e} {r} q z =
-      rw (by_checks (ap (λ cs. run cs left) in_order ∙ stops counting_checks _ left (leaving e left) (run_refused _ left e (free v big maxTags at) (tests_refused _ _ e q))), z)
+      let s = run_refused counting_checks left e (free v big maxTags at) (tests_refused _ _ e q) in
+      rw (by_checks (ap (λ cs. run cs left) in_order ∙ stops counting_checks _ left (leaving e left) s), z)
 
   module _ {n : ℕ} (qc : Ok n ≡ counted v big maxTags at) where
     count_is : n ≡ entries_at v big at
@@ -114,7 +115,10 @@ module _ (v : Seen) (big : Bool) (maxTags at left : ℕ) where
 
       tags_on : answer ≡ by_tags (tags_fine v big (at + 2) n)
       unfolding run
-      tags_on = by_checks (counted_on ∙ then (directory_fee_checks v big at) (tag_checks v big at) left u (rw (← count_is) (sym qf))) ∙ by (tags_fine v big (at + 2) (entries_at v big at)) ∙ ap (λ k. by_tags (tags_fine v big (at + 2) k)) (sym count_is)
+      tags_on =
+          by_checks (counted_on ∙ then (directory_fee_checks v big at) (tag_checks v big at) left u (rw (← count_is) (sym qf)))
+          ∙ by (tags_fine v big (at + 2) (entries_at v big at))
+          ∙ ap (λ k. by_tags (tags_fine v big (at + 2) k)) (sym count_is)
         where
           by : (b : Bool) → giving_left (run (must b invalid ∷ []) u) (directory_at v big at) ≡ by_tags b
           by true = refl
@@ -138,6 +142,26 @@ module _ (v : Seen) (big : Bool) (maxTags at left : ℕ) where
 
 pub ruleset directories = (directory_unpaid, directory_untagged, directory_read)
 
+-- what an answer says: refused, its checks are; a directory is the one at the place, with the units that they leave
+module _ (v : Seen) (big : Bool) (cs : List Check) (at left : ℕ) where
+  pub given_refused : {r : Refused} → Err r ≡ given v big cs at left → run cs left ≡ Err r
+  given_refused {r} q = by (run cs left) q
+    where
+      by : (t : Told) → Err r ≡ giving_left t (directory_at v big at) → t ≡ Err r
+      by (Ok u) z = absurd cc
+      by (Err s) z = ap Err cc
+
+  pub given_found : {d : Directory} → Ok d ≡ given v big cs at left → (run cs left ≡ Ok d.left) × (d ≡ directory_at v big at d.left)
+  given_found {d} q = by (run cs left) q
+    where
+      by : (t : Told) → Ok d ≡ giving_left t (directory_at v big at) → (t ≡ Ok d.left) × (d ≡ directory_at v big at d.left)
+      by (Ok u) z =
+          let e : d ≡ directory_at v big at u = cc in
+          let l : u ≡ d.left = ap (λ (x : Directory). x.left) (sym e) in
+          (ap Ok l, e ∙ ap (directory_at v big at) l)
+      by (Err s) z = absurd cc
+
 -- what is given is one answer
-pub gives_one : (v : Seen) (big : Bool) (cs : List Check) (at left : ℕ) (a b : Result Directory Refused) → Gives v big cs at left a → Gives v big cs at left b → a ≡ b
+pub gives_one : (v : Seen) (big : Bool) (cs : List Check) (at left : ℕ) (a b : Result Directory Refused) → Gives v big cs at left a → Gives v big cs at left b
+    → a ≡ b
 gives_one v big cs at left a b x y = x ∙ sym y

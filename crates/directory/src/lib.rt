@@ -61,14 +61,11 @@ pub fn read_directory(
 ) -> Result<Directory, Refused>
     ensures { DirectoryIs (seen file.now map.now) big max_tags at left result }
 {
-    let entries = count_entries(file, map, big, max_tags, at).map_err(|refusal| refusal.leaving(
-        left,
-    ))?;
+    let entries = count_entries(file, map, big, max_tags, at).map_err(|why| why.leaving(left))?;
     let left = checks::spend(left, entries + 1)?;
     let first = at + 2;
-    let slots = tags::read_tags(file, map, big, first, entries).ok_or(Refusal::Invalid.leaving(
-        left,
-    ))?;
+    let invalid = Refusal::Invalid.leaving(left);
+    let slots = tags::read_tags(file, map, big, first, entries).ok_or(invalid)?;
     let next = words::word4(file, map, big, first + 12 * entries);
     Ok(Directory {
         entries,

@@ -6,7 +6,6 @@ use mathlib.Core.Bool.{Bool}
 use native.Mathlib.Omega.{arith}
 use borrow.Author.Tests.{ltb-true, lt-ltb}
 use Rattle.checks.specs.Checks.{run, Holds, cost}
-use Rattle.checks.specs.declared.Told.TheVariants.{Passed}
 use Rattle.checks.proofs.Exact.{accepted, holds_then, holds_both, cost_then}
 use Rattle.seen.specs.Seen.{Seen}
 use Rattle.directory.specs.Directory.{slots_at, next_at, directory_checks}
@@ -15,6 +14,7 @@ use Rattle.directory.specs.Accepted.{DirectoryFine}
 use Rattle.tiff.specs.Accepted.{WalkFine, walk_fee}
 use Rattle.tags.specs.Inner.{SlotsThere}
 use Rattle.directory.proofs.Accepted.{directory_fine, directory_cost, slots_there}
+use Rattle.std.specs.Prelude.{Ok}
 
 module _ (v : Seen) (big : Bool) where
   each_place : (P : ℕ → Type 0) (page at : ℕ) → P at → ((i : ℕ) → i ≤ page → P (page_at v big i (next_at v big at))) → (i : ℕ) → i ≤ suc page
@@ -62,7 +62,7 @@ module _ (v : Seen) (big : Bool) where
         ∙ rw (directory_cost v big first maxTags, walk_cost page (next_at v big first))
 
     -- the entries of a page that was found are there
-    pub page_there : (page first left u : ℕ) → run (walk_checks v big maxTags page first) left ≡ Passed u
+    pub page_there : (page first left u : ℕ) → run (walk_checks v big maxTags page first) left ≡ Ok u
         → SlotsThere v (slots_at v big (page_at v big page first))
     page_there page first left u e =
         let w = walk_is page first ((accepted (walk_checks v big maxTags page first) left u).0 e).holds in

@@ -1,84 +1,91 @@
 -- The walk to a page: each return against the list of checks.
-use Prim.Native.Nat.{ℕ, zero, suc, ◌-◌}
+use Prim.Native.Nat.{ℕ, zero, suc, ◌+◌, ◌-◌, ◌<◌}
 use mathlib.Core.Path.{◌≡◌, refl, sym, ap, ◌∙◌}
+use mathlib.Core.List.{List, ◌∷◌, ◌++◌}
 use mathlib.Core.Bool.{Bool}
 use native.Mathlib.Omega.{arith}
-use borrow.Author.Rules.{rules}
-use Rattle.checks.specs.Numbers.{page_not_found}
-use Rattle.checks.specs.Checks.{run}
-use Rattle.checks.specs.declared.Told.TheVariants.{Refused, Passed}
+use lib.Dec.{ltb}
+use Rattle.std.specs.Prelude.{Result, Ok, Err}
+use Rattle.checks.specs.Numbers.{Told, page_not_found, leaving}
+use Rattle.checks.specs.Checks.{Check, must, run, giving_left}
+use Rattle.checks.specs.declared.Refused.{Refused}
 use Rattle.checks.proofs.Exact.{then, stops}
 use Rattle.checks.proofs.Rules.{pos}
 use Rattle.seen.specs.Seen.{Seen}
-use Rattle.directory.specs.Directory.{next_at, directory_checks, Gives}
-use Rattle.directory.specs.Inner.{refused_directory}
-use Rattle.tiff.specs.Walk.{walk_checks, page_at}
+use Rattle.directory.specs.Directory.{next_at, directory_checks, directory_at, given}
 use Rattle.directory.specs.declared.Directory.{Directory}
-use Rattle.directory.proofs.Directories.{gives_refused}
+use Rattle.tiff.specs.Walk.{walk_checks, page_at, PlaceIs, PageIs}
 
 module _ (v : Seen) (big : Bool) (maxTags : ℕ) where
-  walk_zero : (p at u : ℕ) → at ≡ 0 → run (walk_checks v big maxTags p at) u ≡ Refused page_not_found u
-  unfolding run walk_checks
-  walk_zero zero at u z = rw z
-  walk_zero (suc p) at u z = rw z
+  -- one directory on the way
+  abbrev place_checks : ℕ → List Check
+  place_checks at = must (ltb 0 at) page_not_found ∷ directory_checks v big maxTags at
 
-  module _ (at u : ℕ) (nz : at ≡ 0 → ⊥) where
-    walk_stops : (p e w : ℕ) → run (directory_checks v big maxTags at) u ≡ Refused e w → run (walk_checks v big maxTags p at) u ≡ Refused e w
-    unfolding run walk_checks
-    walk_stops zero e w q = rw (pos at nz) q
-    walk_stops (suc p) e w q = rw (pos at nz) (stops (directory_checks v big maxTags at) _ u e w q)
+  pub nowhere : (at left : ℕ) → at ≡ 0 → PlaceIs v big maxTags at left (Err (leaving page_not_found left))
+  unfolding run
+  nowhere at left z = rw z
 
-    walk_ends : (w : ℕ) → run (directory_checks v big maxTags at) u ≡ Passed w → run (walk_checks v big maxTags 0 at) u ≡ Passed w
-    unfolding run walk_checks
-    walk_ends w q = rw (pos at nz) q
+  pub somewhere : (at left : ℕ) {r : Result Directory Refused} → (at ≡ 0 → ⊥) → r ≡ given v big (directory_checks v big maxTags at) at left
+      → PlaceIs v big maxTags at left r
+  unfolding run
+  somewhere at left nz e = rw (pos at nz) e
 
-    walk_goes : (p w : ℕ) → run (directory_checks v big maxTags at) u ≡ Passed w
-        → run (walk_checks v big maxTags (suc p) at) u ≡ run (walk_checks v big maxTags p (next_at v big at)) w
-    unfolding run walk_checks
-    walk_goes p w q = rw (pos at nz) (then (directory_checks v big maxTags at) _ u w q)
+  -- what is ahead of a directory with so many pages to go
+  abbrev ahead : ℕ → Directory → Result Directory Refused
+  ahead zero d = Ok d
+  ahead (suc p) d = given v big (walk_checks v big maxTags p d.next) (page_at v big p d.next) d.left
 
-pub record Walking (v : Seen) (big : Bool) (maxTags page first left ahead at rest : ℕ) : Type 0 where
-  pub same : run (walk_checks v big maxTags page first) left ≡ run (walk_checks v big maxTags ahead at) rest
-  pub same_page : page_at v big page first ≡ page_at v big ahead at
+  abbrev page_of : ℕ → ℕ → ℕ → Result Directory Refused
+  page_of p at left = given v big (walk_checks v big maxTags p at) (page_at v big p at) left
 
-pub walking_none : (v : Seen) (big : Bool) (maxTags page first left : ℕ) → Walking v big maxTags page first left page first left
-walking_none v big maxTags page first left = record { same = refl; same_page = refl }
+  -- the checks behind a directory
+  abbrev rest : ℕ → ℕ → List Check
+  rest p at = walk_checks v big maxTags p (next_at v big at)
 
-module _ (v : Seen) (big : Bool) (maxTags page first left ahead at rest : ℕ) (w : Walking v big maxTags page first left ahead at rest) where
-  abbrev PageGives : Directory → Type 0
-  PageGives d = Gives v big (walk_checks v big maxTags page first) (page_at v big page first) left d
+  -- a walk is its first directory, then what is ahead of that
+  abbrev after : ℕ → Result Directory Refused → Result Directory Refused
+  after p (Ok d) = ahead p d
+  after p (Err r) = Err r
 
-  pub page_missing : (d : Directory) → at ≡ 0 → d ≡ refused_directory page_not_found rest → PageGives d
-  page_missing d z e = gives_refused v big _ _ left page_not_found rest d (sym (w.same ∙ walk_zero v big maxTags ahead at rest z)) e
+  step : (p at left : ℕ) → page_of p at left ≡ after p (given v big (place_checks at) at left)
+  unfolding walk_checks page_at
+  step zero at left = by (run (place_checks at) left)
+    where
+      by : (t : Told) → giving_left t (directory_at v big at) ≡ after 0 (giving_left t (directory_at v big at))
+      by (Ok u) = refl
+      by (Err r) = refl
+  step (suc p) at left = by (run (place_checks at) left) refl
+    where
+      by : (t : Told) → run (place_checks at) left ≡ t
+          → given v big (place_checks at ++ rest p at) (page_at v big p (next_at v big at)) left ≡ after (suc p) (giving_left t (directory_at v big at))
+      by (Ok u) e = rw (then (place_checks at) (rest p at) left u e) refl
+      by (Err r) e = rw (stops (place_checks at) (rest p at) left r e) refl
 
-  module _ (nz : at ≡ 0 → ⊥) (d : Directory) (g : Gives v big (directory_checks v big maxTags at) at rest d) where
-    pub page_refused : (e u : ℕ) (r : Directory) → d.told ≡ Refused e u → r ≡ refused_directory e u → PageGives r
-    page_refused e u r t z = gives_refused v big _ _ left e u r (sym (w.same ∙ walk_stops v big maxTags at rest nz ahead e u (sym g.told_is ∙ t))) z
+pub record Walking (v : Seen) (big : Bool) (maxTags page first left i : ℕ) (found : Directory) : Type 0 where
+  pub same : page_of v big maxTags page first left ≡ ahead v big maxTags (page - i) found
 
-    pub page_found : (u : ℕ) → d.told ≡ Passed u → ahead ≡ 0 → PageGives d
-    unfolding page_at
-    page_found u t z =
-        let p : page_at v big page first ≡ at = rw z at w.same_page in
-        let o : run (walk_checks v big maxTags page first) left ≡ run (walk_checks v big maxTags 0 at) rest = rw z at w.same in
-        record {
-          told_is = t ∙ sym (o ∙ walk_ends v big maxTags at rest nz u (sym g.told_is ∙ t));
-          entries_are = rw p g.entries_are;
-          slots_are = rw p g.slots_are;
-          next_is = rw p g.next_is;
-        }
+module _ (v : Seen) (big : Bool) (maxTags page first left : ℕ) where
+  pub first_refused : {r : Refused} → PlaceIs v big maxTags first left (Err r) → PageIs v big maxTags page first left (Err r)
+  first_refused q = rw (step v big maxTags page first left, ← q) refl
 
-    pub walking_more : (u : ℕ) → d.told ≡ Passed u → (ahead ≡ 0 → ⊥) → Walking v big maxTags page first left (ahead - 1) d.next u
-    unfolding page_at
-    walking_more u t z =
-        let q : ahead ≡ suc (ahead - 1) = omega arith in
-        let x : d.next ≡ next_at v big at = rw t at g.next_is in
-        record {
-          same =
-              w.same
-              ∙ ap (λ (k : ℕ). run (walk_checks v big maxTags k at) rest) q
-              ∙ walk_goes v big maxTags at rest nz (ahead - 1) u (sym g.told_is ∙ t)
-              ∙ ap (λ (k : ℕ). run (walk_checks v big maxTags (ahead - 1) k) u) (sym x);
-          same_page = w.same_page ∙ ap (λ (k : ℕ). page_at v big k at) q ∙ ap (λ (k : ℕ). page_at v big (ahead - 1) k) (sym x);
-        }
+  pub first_found : {d : Directory} → PlaceIs v big maxTags first left (Ok d) → Walking v big maxTags page first left 0 d
+  first_found {d} q =
+      let z : page ≡ page - 0 = omega arith in
+      record { same = rw (step v big maxTags page first left, ← q) (ap (λ (k : ℕ). ahead v big maxTags k d) z) }
 
-pub ruleset walks = (walking_none, page_missing, page_refused, page_found, walking_more, rules)
+  module _ (i : ℕ) (found : Directory) (w : Walking v big maxTags page first left i found) where
+    onward : i < page → page_of v big maxTags page first left ≡ page_of v big maxTags (page - (i + 1)) found.next found.left
+    onward l = let z : page - i ≡ suc (page - (i + 1)) = omega arith in w.same ∙ ap (λ (k : ℕ). ahead v big maxTags k found) z
+
+    pub next_refused : {r : Refused} → i < page → PlaceIs v big maxTags found.next found.left (Err r) → PageIs v big maxTags page first left (Err r)
+    next_refused l q = rw (onward l, step v big maxTags (page - (i + 1)) found.next found.left, ← q) refl
+
+    pub next_found : {d : Directory} → i < page → PlaceIs v big maxTags found.next found.left (Ok d) → Walking v big maxTags page first left (i + 1) d
+    next_found l q = record { same = rw (onward l, step v big maxTags (page - (i + 1)) found.next found.left, ← q) refl }
+
+    pub page_found : i ≡ page → PageIs v big maxTags page first left (Ok found)
+    page_found z = let n : page - i ≡ 0 = omega arith in sym (w.same ∙ ap (λ (k : ℕ). ahead v big maxTags k found) n)
+
+pub ruleset places = (nowhere, somewhere)
+
+pub ruleset walks = (first_refused, first_found, next_refused, next_found, page_found)

@@ -2,12 +2,31 @@
 #![tactic(auto)]
 
 ghost use Rattle.seen.specs.Seen.{seen};
-ghost use Rattle.tiff.specs.Walk.{PageIs};
+ghost use Rattle.tiff.specs.Walk.{PlaceIs, PageIs};
 
-use checks::{PAGE_NOT_FOUND, Told};
+use checks::{Refusal, Refused};
 use directory::Directory;
 
-// Every directory up to that of the page; an offset of 0 before it is 5. Loops are allowed, as each turn is charged.
+// The directory at an offset: an offset of 0 is 5.
+#[tactic(auto, using(crate::proofs::Pages::places))]
+fn read_at(
+    file: &[u8],
+    map: &[u8],
+    big: bool,
+    max_tags: usize,
+    at: usize,
+    left: usize,
+) -> Result<Directory, Refused>
+    ensures { PlaceIs (seen file.now map.now) big max_tags at left result }
+{
+    if at == 0 {
+        return Err(Refusal::PageNotFound.leaving(left));
+    }
+    directory::read_directory(file, map, big, max_tags, at, left)
+}
+
+// Every directory up to that of the page. Loops are allowed, as each directory is charged.
+#[tactic(auto, using(crate::proofs::Pages::walks))]
 pub fn find_page(
     file: &[u8],
     map: &[u8],
@@ -16,30 +35,12 @@ pub fn find_page(
     page: usize,
     first: usize,
     left: usize,
-) -> Directory
+) -> Result<Directory, Refused>
     ensures { PageIs (seen file.now map.now) big max_tags page first left result }
 {
-    let mut at = first;
-    let mut rest = left;
-    let mut ahead = page;
-    loop {
-        if at == 0 {
-            return directory::refused(PAGE_NOT_FOUND, rest);
-        }
-        let d = directory::read_directory(file, map, big, max_tags, at, rest);
-        let told = d.told;
-        match told {
-            Told::Refused(e, u) => {
-                return directory::refused(e, u);
-            }
-            Told::Passed(u) => {
-                if ahead == 0 {
-                    return d;
-                }
-                rest = u;
-                at = d.next;
-                ahead -= 1;
-            }
-        }
+    let mut found = read_at(file, map, big, max_tags, first, left)?;
+    for _ in 0..page {
+        found = read_at(file, map, big, max_tags, found.next, found.left)?;
     }
+    Ok(found)
 }

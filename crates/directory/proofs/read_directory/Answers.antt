@@ -19,13 +19,17 @@ pub word4-next-requires : goal.word4-next-requires
 word4-next-requires c = next_there _ _ _ _ c.args.left (passed_on c.in_ok-entries.ensures.cases ∙ c.count_entries.ensures)
 
 pub overflow_add-entries : goal.overflow_add-entries
-overflow_add-entries c = let f = entries_fit (seen c.args.file.now c.args.map.now) _ _ _ c.args.left (passed_on c.in_ok-entries.ensures.cases ∙ c.count_entries.ensures) in omega arith
+overflow_add-entries c =
+    omega (arith, entries_fit (seen c.args.file.now c.args.map.now) _ _ _ c.args.left (passed_on c.in_ok-entries.ensures.cases ∙ c.count_entries.ensures))
 
 pub overflow_add-first : goal.overflow_add-first
-overflow_add-first c = let f = entries_fit (seen c.args.file.now c.args.map.now) _ _ _ c.args.left (passed_on c.in_ok-entries.ensures.cases ∙ c.count_entries.ensures) in omega arith
+overflow_add-first c =
+    omega (arith, entries_fit (seen c.args.file.now c.args.map.now) _ _ _ c.args.left (passed_on c.in_ok-entries.ensures.cases ∙ c.count_entries.ensures))
 
 pub overflow_mul-entries : goal.overflow_mul-entries
-overflow_mul-entries c = let f = entries_fit (seen c.args.file.now c.args.map.now) _ _ _ c.args.left (passed_on c.in_ok-entries.ensures.cases ∙ c.count_entries.ensures) in omega arith
+overflow_mul-entries c =
+    omega (arith, entries_fit (seen c.args.file.now c.args.map.now) _ _ _ c.args.left (passed_on c.in_ok-entries.ensures.cases ∙ c.count_entries.ensures))
 
 pub overflow_add-first-2 : goal.overflow_add-first-2
-overflow_add-first-2 c = let f = entries_fit (seen c.args.file.now c.args.map.now) _ _ _ c.args.left (passed_on c.in_ok-entries.ensures.cases ∙ c.count_entries.ensures) in omega arith
+overflow_add-first-2 c =
+    omega (arith, entries_fit (seen c.args.file.now c.args.map.now) _ _ _ c.args.left (passed_on c.in_ok-entries.ensures.cases ∙ c.count_entries.ensures))
