@@ -1,5 +1,5 @@
 -- A trace is read as it was written: message after message, up to one that is cut or to a byte that begins none.
-use Prim.Native.Nat.{ℕ, zero, suc, ◌+◌, ◌-◌, ◌^◌, ◌<◌, ◌≤◌}
+use Prim.Native.Nat.{ℕ, ◌+◌, ◌-◌, ◌^◌, ◌<◌, ◌≤◌}
 use mathlib.Core.Path.{◌≡◌, refl, sym, ap, ◌∙◌}
 use mathlib.Core.List.{List, [], ◌∷◌, ◌++◌, append_assoc}
 use mathlib.Core.Bool.{Bool, true, false}
@@ -7,20 +7,19 @@ use native.Mathlib.Omega.{arith}
 use lib.ListN.{length, take, drop, length-append, length-drop}
 use lib.Seq.{take_at, drop_at, take-append-le, drop-append-le, drop-drop}
 use lib.Dec.{ltb}
-use borrow.Author.Tests.{lt-ltb, le-ltb, ne_eqb, ltb-true, ltb-false}
+use borrow.Author.Tests.{lt-ltb, le-ltb, ltb-false}
 use Rattle.lists.specs.Lists.{pick}
-use Rattle.checks.specs.Numbers.{truncated, invalid}
-use Rattle.checks.specs.declared.Verdict.TheVariants.{Fine, Refused}
+use Rattle.checks.specs.Numbers.{truncated, invalid, no_refusal}
 use Rattle.words64.specs.Words64.{number_from, digits}
 use Rattle.words64.proofs.Digits.{digits_length, number_digits}
-use Rattle.trace.specs.declared.Next.{Next}
-use Rattle.trace.specs.declared.Next.TheVariants.{Over, Cut, Foreign, Start, Block}
-use Rattle.trace.specs.Trace.{Message, start, block, Trace, size_in, next_of, ends_with, goes_on, trace_from, trace_of, written, Writable, written_all, EachWritable, goes_on_all}
+use Rattle.trace.specs.declared.Next.TheVariants.{Cut, Foreign, Start, Block}
+use Rattle.trace.specs.Trace.{Message, start, block, size_in, next_of, ends_with, goes_on, trace_from, trace_of, written, Writable, written_all, EachWritable, goes_on_all}
 use Rattle.trace.proofs.Messages.{first_foreign}
 use Rattle.trace.proofs.Traces.{begins}
+use Rattle.std.specs.Prelude.{Err}
 
 -- nothing
-pub nothing_written : trace_of [] ≡ ends_with Fine
+pub nothing_written : trace_of [] ≡ ends_with no_refusal
 unfolding trace_from
 nothing_written = refl
 
@@ -104,7 +103,7 @@ all_written (m ∷ later) w rest =
     ∙ ap (goes_on m) (all_written later w.1 rest)
 
 -- a message of which something is there, and something not
-cut_trace : (t : List ℕ) → next_of t ≡ Cut → trace_of t ≡ ends_with (Refused truncated)
+cut_trace : (t : List ℕ) → next_of t ≡ Cut → trace_of t ≡ ends_with (Err truncated)
 cut_trace t e = begins t refl Cut e
 
 start_cut_short : (size : ℕ) (p missing : List ℕ) → p ++ missing ≡ digits 8 size → 0 < length missing → next_of (1 ∷ p) ≡ Cut
@@ -128,7 +127,7 @@ block_cut_short number bytes p missing few e some = by (ltb (length p) 10) refl
         rw (size, lt-ltb (length p - 10) (length bytes) l)
 
 pub cut_written : (m : Message) → Writable m → (part missing : List ℕ) → part ++ missing ≡ written m → 0 < length part → 0 < length missing
-    → trace_of part ≡ ends_with (Refused truncated)
+    → trace_of part ≡ ends_with (Err truncated)
 cut_written m w [] missing e some more = absurd (omega arith)
 cut_written (start size) w (b ∷ p) missing e some more =
     let k : b ≡ 1 = cc in
@@ -140,5 +139,5 @@ cut_written (block number bytes) w (b ∷ p) missing e some more =
     rw k (cut_trace (2 ∷ p) (block_cut_short number bytes p missing w.1 q more))
 
 -- a byte that begins no message
-pub foreign_byte : (b : ℕ) (rest : List ℕ) → (b ≡ 1 → ⊥) → (b ≡ 2 → ⊥) → trace_of (b ∷ rest) ≡ ends_with (Refused invalid)
+pub foreign_byte : (b : ℕ) (rest : List ℕ) → (b ≡ 1 → ⊥) → (b ≡ 2 → ⊥) → trace_of (b ∷ rest) ≡ ends_with (Err invalid)
 foreign_byte b rest one two = begins (b ∷ rest) refl Foreign (sym (first_foreign (b ∷ rest) (λ e. omega arith) one two))

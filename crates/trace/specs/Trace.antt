@@ -1,9 +1,7 @@
 -- A recorded trace: the messages of the bus, one after the other, and how it ends.
-use Rattle.std.specs.Prelude.{ℕ, zero, suc, ◌+◌, ◌-◌, ◌^◌, ◌<◌, List, [], ◌∷◌, ◌++◌, length, take, drop, ltb, eqb}
+use Rattle.std.specs.Prelude.{ℕ, zero, suc, ◌+◌, ◌-◌, ◌^◌, ◌<◌, List, [], ◌∷◌, ◌++◌, length, take, drop, ltb, eqb, Err}
 use Rattle.lists.specs.Lists.{pick}
-use Rattle.checks.specs.Numbers.{truncated, invalid}
-use Rattle.checks.specs.declared.Verdict.{Verdict}
-use Rattle.checks.specs.declared.Verdict.TheVariants.{Fine, Refused}
+use Rattle.checks.specs.Numbers.{truncated, invalid, Verdict, no_refusal}
 use Rattle.words64.specs.Words64.{number_from, digits}
 use Rattle.trace.specs.declared.Next.{Next}
 use Rattle.trace.specs.declared.Next.TheVariants as NextIs
@@ -46,9 +44,9 @@ goes_on m later = record { messages = m ∷ later.messages; ending = later.endin
 
 -- a trace by what it begins with, from what follows its first byte and from the trace after its first message
 abbrev pub begins_with : Next → List ℕ → Trace → Trace
-begins_with NextIs.Over rest later = ends_with Fine
-begins_with NextIs.Cut rest later = ends_with (Refused truncated)
-begins_with NextIs.Foreign rest later = ends_with (Refused invalid)
+begins_with NextIs.Over rest later = ends_with no_refusal
+begins_with NextIs.Cut rest later = ends_with (Err truncated)
+begins_with NextIs.Foreign rest later = ends_with (Err invalid)
 begins_with (NextIs.Start size) rest later = goes_on (start size) later
 begins_with (NextIs.Block number size) rest later = goes_on (block number (take size (drop 10 rest))) later
 
@@ -62,7 +60,7 @@ length_of (NextIs.Block number size) = 10 + size
 
 -- the first `skip` bytes belong to the message before
 unfoldable pub trace_from : List ℕ → ℕ → Trace
-trace_from [] skip = ends_with Fine
+trace_from [] skip = ends_with no_refusal
 trace_from (byte ∷ rest) (suc skip) = trace_from rest skip
 trace_from (byte ∷ rest) zero = begins_with (next_of (byte ∷ rest)) rest (trace_from rest (length_of (next_of (byte ∷ rest))))
 
