@@ -8,15 +8,14 @@ use lib.Seq.{drop-drop, take_all}
 use mir.Syntax.{w64}
 use mir.Val.{Fits}
 use borrow.Author.Rules.{rules}
-use Rattle.checks.specs.Numbers.{truncated, invalid}
-use Rattle.checks.specs.declared.Verdict.{Verdict}
-use Rattle.checks.specs.declared.Verdict.TheVariants.{Fine, Refused}
+use Rattle.checks.specs.Numbers.{truncated, invalid, Verdict, no_refusal}
 use Rattle.receiver.specs.declared.Receiver.{Receiver}
 use Rattle.trace.specs.declared.Next.{Next}
 use Rattle.trace.specs.declared.Next.TheVariants.{Over, Cut, Foreign, Start, Block}
 use Rattle.trace.specs.Trace.{start, block, Trace, next_of, ends_with, begins_with, length_of, trace_of}
 use Rattle.trace.proofs.Traces.{begins, start_there, block_there}
-use Rattle.receiver.specs.Receiver.{Reception, lent, received, received_all, Answers, Replays}
+use Rattle.receiver.specs.Receiver.{lent, received_all, Answers, Replays}
+use Rattle.std.specs.Prelude.{Err}
 
 -- the replay has come to a place: what is ahead, received as things stand now, is what the whole trace leaves
 pub record Replaying (trace file₀ map₀ : List ℕ) (r₀ : Receiver) (file map : List ℕ) (at : ℕ) (r : Receiver) : Type 0 where
@@ -95,15 +94,17 @@ module _ (trace file₀ map₀ : List ℕ) (r₀ : Receiver) (file map : List �
         leaves = ap (λ (x : Trace). received_all x.messages (lent r file map)) (sym t) ∙ s.leaves;
       }
 
-  pub replayed_over : n ≡ Over → Replays trace (lent r₀ file₀ map₀) Fine (lent r file map)
-  replayed_over e = stops Over Fine e refl
+  pub replayed_over : n ≡ Over → Replays trace (lent r₀ file₀ map₀) no_refusal (lent r file map)
+  replayed_over e = stops Over no_refusal e refl
 
-  pub replayed_cut : n ≡ Cut → Replays trace (lent r₀ file₀ map₀) (Refused truncated) (lent r file map)
-  replayed_cut e = stops Cut (Refused truncated) e refl
+  pub replayed_cut : n ≡ Cut → Replays trace (lent r₀ file₀ map₀) (Err truncated) (lent r file map)
+  replayed_cut e = stops Cut (Err truncated) e refl
 
-  pub replayed_foreign : n ≡ Foreign → Replays trace (lent r₀ file₀ map₀) (Refused invalid) (lent r file map)
-  replayed_foreign e = stops Foreign (Refused invalid) e refl
+  pub replayed_foreign : n ≡ Foreign → Replays trace (lent r₀ file₀ map₀) (Err invalid) (lent r file map)
+  replayed_foreign e = stops Foreign (Err invalid) e refl
 
 pub ruleset advances = (start_in_lem, block_in_lem, start_less, block_less, block_end)
 
-pub ruleset replays = (advances, replaying_none, replaying_start, replaying_block, replayed_over, replayed_cut, replayed_foreign, rules)
+pub ruleset ends = (replayed_over, replayed_cut, replayed_foreign)
+
+pub ruleset replays = (advances, replaying_none, replaying_start, replaying_block, ends, rules)

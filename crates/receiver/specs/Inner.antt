@@ -1,5 +1,5 @@
 -- What only the code's own functions ask for and leave: a block's place in the file buffer and in the map.
-use Rattle.std.specs.Prelude.{ℕ, ◌+◌, ◌<◌, ◌≤◌, ◌≡◌, List, length}
+use Rattle.std.specs.Prelude.{ℕ, ◌+◌, ◌<◌, ◌≤◌, ◌≡◌, List}
 use Rattle.lists.specs.Lists.{put}
 use Rattle.seen.specs.Seen.{block_start, also_came}
 

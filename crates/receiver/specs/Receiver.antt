@@ -1,13 +1,11 @@
 -- What the receiver answers to a message, what it then has, and the same for message after message.
-use Rattle.std.specs.Prelude.{ℕ, ◌<◌, ◌≤◌, ◌≡◌, List, [], ◌∷◌, Bool, true, false, length, ltb, leb, eqb}
+use Rattle.std.specs.Prelude.{ℕ, ◌<◌, ◌≤◌, ◌≡◌, List, [], ◌∷◌, Bool, true, false, length, ltb, leb, eqb, Ok, Err}
 use Rattle.lists.specs.Lists.{pick, put}
-use Rattle.checks.specs.Numbers.{receiver_too_small, no_such_block, block_size}
+use Rattle.checks.specs.Numbers.{receiver_too_small, no_such_block, block_size, Verdict}
 use Rattle.checks.specs.Checks.{Check, must, verdict}
-use Rattle.checks.specs.declared.Verdict.{Verdict}
-use Rattle.checks.specs.declared.Verdict.TheVariants.{Fine, Refused}
 use Rattle.seen.specs.Seen.{blocks_in, block_start, block_length, map_length, none_came, also_came}
 use Rattle.receiver.specs.declared.Receiver.{Receiver}
-use Rattle.trace.specs.Trace.{Message, start, block, Trace, trace_of}
+use Rattle.trace.specs.Trace.{Message, start, block, trace_of}
 
 -- the receiver's state, the file buffer and the map that it was lent
 pub record Reception : Type 0 where
@@ -58,8 +56,8 @@ accepted (block number bytes) s = lent s.receiver (put (block_start number) byte
 
 -- a refused message changes nothing (rule 11.2)
 abbrev pub on_fine : {X : Type 0} → Verdict → X → X → X
-on_fine Fine x y = x
-on_fine (Refused e) x y = y
+on_fine (Ok u) x y = x
+on_fine (Err e) x y = y
 
 unfoldable pub received : Message → Reception → Reception
 received m s = on_fine (answer_to m s) (accepted m s) s

@@ -1,26 +1,27 @@
 // The receiver of a bus: starts and blocks over a lent file buffer and map, and the replay of a recorded trace.
 #![tactic(auto)]
 
-ghost use Rattle.std.specs.Prelude.{◌≡◌, false, ◌+◌, ◌≤◌, length, take, drop};
+ghost use Rattle.std.specs.Prelude.{◌≡◌, false, length};
 ghost use Rattle.checks.specs.Checks.{verdict};
 ghost use Rattle.trace.specs.Trace.{start, block};
 ghost use Rattle.receiver.specs.Receiver.{lent, suffices_for, block_checks, Answers, Replays};
 ghost use Rattle.receiver.specs.Inner.{HasPlace, Placed};
 
-use checks::{BLOCK_SIZE, INVALID, NO_SUCH_BLOCK, RECEIVER_TOO_SMALL, TRUNCATED, Verdict};
+use checks::Refusal;
 use trace::Next;
 
 // Whether a start was accepted, and the length of its picture. By itself it holds nothing else: file buffer and map are lent.
-#[derive(Clone, Copy)]
+// No Option: a receiver has a length before any start too, which C lends in the second word and `vectors` prints.
+#[derive(Clone, Copy, Debug, PartialEq, Eq)]
 pub struct Receiver {
     pub started: bool,
     pub length: usize,
 }
 
-// The answer to a message or to a trace, and the receiver after it.
-#[derive(Clone, Copy)]
+// The answer to a message or to a trace, and the receiver after it, which it has beside a refusal too.
+#[derive(Clone, Copy, Debug, PartialEq, Eq)]
 pub struct Received {
-    pub answer: Verdict,
+    pub answer: Result<(), Refusal>,
     pub receiver: Receiver,
 }
 
@@ -35,14 +36,11 @@ pub fn idle() -> Receiver
 }
 
 // Whether buffers of these lengths suffice for a picture of this size.
+
 fn suffices(size: usize, file: usize, map: usize) -> bool
     ensures { result ≡ suffices_for size file map }
 {
-    if size <= file {
-        seen::map_length(size) <= map
-    } else {
-        false
-    }
+    size <= file && seen::map_length(size) <= map
 }
 
 // A picture begins: buffers that are too short are 10. The whole map says then that nothing came; the bytes stay.
@@ -52,39 +50,46 @@ pub fn start(file: &[u8], map: &mut [u8], receiver: Receiver, length: usize) -> 
 {
     if !suffices(length, file.len(), map.len()) {
         return Received {
-            answer: Verdict::Refused(RECEIVER_TOO_SMALL),
-            receiver: receiver,
+            answer: Err(Refusal::ReceiverTooSmall),
+            receiver,
         };
     }
-    clearing::clear(map);
+    map.fill(0);
     Received {
-        answer: Verdict::Fine,
+        answer: Ok(()),
         receiver: Receiver {
             started: true,
-            length: length,
+            length,
         },
     }
 }
 
 // Whether a block of this number and size is taken: buffers that are too short for the picture 10, a number outside it or before
 // any start 11, a wrong size 12.
-fn admits(receiver: Receiver, number: usize, size: usize, file: usize, map: usize) -> Verdict
+#[tactic(auto, using(crate::proofs::Receiving::admissions))]
+fn admits(
+    receiver: Receiver,
+    number: usize,
+    size: usize,
+    file: usize,
+    map: usize,
+) -> Result<(), Refusal>
     ensures { result ≡ verdict (block_checks receiver number size file map) }
 {
     let length = receiver.length;
     if !receiver.started {
-        return Verdict::Refused(NO_SUCH_BLOCK);
+        return Err(Refusal::NoSuchBlock);
     }
     if !suffices(length, file, map) {
-        return Verdict::Refused(RECEIVER_TOO_SMALL);
+        return Err(Refusal::ReceiverTooSmall);
     }
     if seen::blocks_in(length) <= number {
-        return Verdict::Refused(NO_SUCH_BLOCK);
+        return Err(Refusal::NoSuchBlock);
     }
     if size != seen::block_length(length, number) {
-        return Verdict::Refused(BLOCK_SIZE);
+        return Err(Refusal::BlockSize);
     }
-    Verdict::Fine
+    Ok(())
 }
 
 // The bytes of a block go to their place in the file buffer, and the map says that it came.
@@ -107,71 +112,40 @@ pub fn block(
     ensures { Answers (block number bytes.now) (lent receiver file.old map.old) result.answer
         (lent result.receiver file.new map.new) }
 {
-    match admits(receiver, number, bytes.len(), file.len(), map.len()) {
-        Verdict::Refused(e) => Received {
-            answer: Verdict::Refused(e),
-            receiver: receiver,
-        },
-        Verdict::Fine => {
-            place(file, map, number, bytes);
-            Received {
-                answer: Verdict::Fine,
-                receiver: receiver,
-            }
-        }
+    let answer = admits(receiver, number, bytes.len(), file.len(), map.len());
+    if answer.is_ok() {
+        place(file, map, number, bytes);
     }
-}
-
-// The block of a trace whose message begins at a place.
-fn block_at(
-    trace: &[u8],
-    at: usize,
-    number: usize,
-    size: usize,
-    file: &mut [u8],
-    map: &mut [u8],
-    receiver: Receiver,
-) -> Received
-    requires { at + 11 + size ≤ length trace.now }
-    ensures { Answers (block number (take size (drop (at + 11) trace.now))) (lent receiver file.old map.old)
-        result.answer (lent result.receiver file.new map.new) }
-{
-    let begin = at + 11;
-    let end = begin + size;
-    block(file, map, receiver, number, &trace[begin..end])
+    Received { answer, receiver }
 }
 
 // A trace, message by message. What came before the message at which it stops stays.
+#[tactic(auto, using(crate::proofs::Replaying::ends))]
 pub fn replay(trace: &[u8], file: &mut [u8], map: &mut [u8], receiver: Receiver) -> Received
     ensures { Replays trace.now (lent receiver file.old map.old) result.answer
         (lent result.receiver file.new map.new) }
 {
-    let mut at: usize = 0;
+    let mut at = 0;
     let mut state = receiver;
-    loop {
+    let answer = loop {
         match trace::first(&trace[at..]) {
             Next::Start(length) => {
-                let received = start(file, map, state, length);
-                state = received.receiver;
-                at = at + 9;
+                state = start(file, map, state, length).receiver;
+                at += 9;
             }
             Next::Block(number, size) => {
-                let received = block_at(trace, at, number, size, file, map, state);
-                state = received.receiver;
-                at = at + 11 + size;
+                let from = at + 11;
+                let to = from + size;
+                state = block(file, map, state, number, &trace[from..to]).receiver;
+                at = to;
             }
-            Next::Over => return Received {
-                answer: Verdict::Fine,
-                receiver: state,
-            },
-            Next::Cut => return Received {
-                answer: Verdict::Refused(TRUNCATED),
-                receiver: state,
-            },
-            Next::Foreign => return Received {
-                answer: Verdict::Refused(INVALID),
-                receiver: state,
-            },
+            Next::Over => break Ok(()),
+            Next::Cut => break Err(Refusal::Truncated),
+            Next::Foreign => break Err(Refusal::Invalid),
         }
+    };
+    Received {
+        answer,
+        receiver: state,
     }
 }

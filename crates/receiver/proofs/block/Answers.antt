@@ -1,27 +1,13 @@
 -- What the checks say is the answer; an accepted block has its place.
-use Rattle.receiver.proofs.Receiving.{blocks}
+use mathlib.Core.Path.{sym, ◌∙◌}
+use Rattle.receiver.proofs.Receiving.{block_refused, block_taken, block_has_place}
 use Rattle.receiver.proofs.block.Goals as goal
 
-pub admits-requires : goal.admits-requires
-admits-requires c = search blocks
-
-pub enum_known-e : goal.enum_known-e
-enum_known-e c = search blocks
-
-pub enum_told-1 : goal.enum_told-1
-enum_told-1 c = search blocks
-
 pub place-requires : goal.place-requires
-place-requires c = search blocks
+place-requires c = block_has_place _ _ _ _ _ c.admits-answer.ensures (sym c.is_ok.ensures.value ∙ c.if-is_ok.true)
 
-pub returns-in-Refused : goal.returns-in-Refused
-returns-in-Refused c = search blocks
+pub returns-then-is_ok : goal.returns-then-is_ok
+returns-then-is_ok c = block_taken _ _ _ _ _ c.admits-answer.ensures (sym c.is_ok.ensures.value ∙ c.if-is_ok.true) c.place.ensures
 
-pub shape_of-file : goal.shape_of-file
-shape_of-file c = search blocks
-
-pub shape_of-map : goal.shape_of-map
-shape_of-map c = search blocks
-
-pub returns-in-Fine : goal.returns-in-Fine
-returns-in-Fine c = search blocks
+pub returns-else-is_ok : goal.returns-else-is_ok
+returns-else-is_ok c = block_refused _ _ _ _ _ c.admits-answer.ensures (sym c.is_ok.ensures.value ∙ c.if-is_ok.false)

@@ -1,18 +1,11 @@
 -- Refused it leaves all as it was; accepted it clears the map.
-use Rattle.receiver.proofs.Receiving.{starts}
+use borrow.Author.Rules.{rules}
+use borrow.Author.Tests.{not-false}
+use Rattle.receiver.proofs.Receiving.{start_refused, start_taken}
 use Rattle.receiver.proofs.start.Goals as goal
 
-pub suffices-requires : goal.suffices-requires
-suffices-requires c = search starts
-
 pub returns-then-not-suffices : goal.returns-then-not-suffices
-returns-then-not-suffices c = search starts
-
-pub clear-requires : goal.clear-requires
-clear-requires c = search starts
-
-pub shape_of-map : goal.shape_of-map
-shape_of-map c = search starts
+returns-then-not-suffices c = search (start_refused, rules)
 
 pub returns : goal.returns
-returns c = search starts
+returns c = start_taken _ _ _ _ c.suffices.ensures (search (not-false, rules)) (search rules)
