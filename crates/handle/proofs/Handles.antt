@@ -1,76 +1,50 @@
--- Comparing two handles: each function answers its part, and the whole says yes exactly if they are equal.
+-- Two handles are equal exactly if each of their fields is.
 use Prim.Native.Nat.{ℕ}
-use mathlib.Core.Path.{◌≡◌, refl, sym}
+use mathlib.Core.Path.{◌≡◌, refl, sym, ◌∙◌}
 use mathlib.Core.Bool.{Bool, true, false, ◌&&◌}
 use lib.Dec.{eqb}
-use borrow.Author.Rules.{rules}
-use borrow.Author.Tests.{eqb-true, eq-eqb, not-true, not-false}
+use Rattle.std.proofs.Math.Bool.{beq, and_assoc, and-false}
+use borrow.Author.Tests.{eqb-true, eq-eqb, not-true}
 use Rattle.seen.proofs.Blocks.{true_false}
 use Rattle.picture.specs.declared.Format.{Format}
 use Rattle.handle.specs.declared.Handle.{Handle}
 use Rattle.handle.specs.Handle.{same_bool, same_sides, same_cut, same_entries, same_format, same_handle}
 
--- four tests, the first that fails decides
-module _ (a b c d : Bool) where
-  pub first_fails : a ≡ false → false ≡ a && b && c && d
-  first_fails q = rw q
+-- the derived test of a flag is that of the definitions
+flag_compared : (a b : Bool) → beq a b ≡ same_bool a b
+flag_compared true true = refl
+flag_compared true false = refl
+flag_compared false true = refl
+flag_compared false false = refl
 
-  module _ (qa : a ≡ true) where
-    pub second_fails : b ≡ false → false ≡ a && b && c && d
-    second_fails q = rw (qa, q)
+-- sixteen tests one after the other are the same in the groups of the definitions
+regrouped : (a b c d e f g h i j k l m n o p : Bool)
+    → (a && (b && (c && (d && (e && (f && (g && (h && (i && (j && (k && (l && m)))))))))))) && (n && (o && p))
+    ≡ (a && b && c && d) && (k && e && f && g) && (l && h && i && j) && m && n && o && p
+regrouped a b c d e f g h i j true true m n o p = simp and_assoc
+regrouped a b c d e f g h i j true false m n o p = simp and-false
+regrouped a b c d e f g h i j false l m n o p = simp and-false
 
-    module _ (qb : b ≡ true) where
-      pub third_fails : c ≡ false → false ≡ a && b && c && d
-      third_fails q = rw (qa, qb, q)
-
-      pub fourth_decides : c ≡ true → d ≡ a && b && c && d
-      fourth_decides q = rw (qa, qb, q)
-
-pub ruleset four_tests = (first_fails, second_fails, third_fails, fourth_decides, not-true, not-false, rules)
-
--- what each function answers, by what its calls answered
-module _ (f g : Format) {r : Bool} where
-  pub sides_are : r ≡ eqb f.width g.width && eqb f.height g.height
-      && eqb f.block_width g.block_width && eqb f.block_height g.block_height
-      → r ≡ same_sides f g
-  unfolding same_sides
-  sides_are e = e
-
-  pub cut_is : {t : Bool} → t ≡ same_bool f.tiled g.tiled
-      → r ≡ t && eqb f.across g.across && eqb f.segments g.segments && eqb f.output g.output → r ≡ same_cut f g
-  unfolding same_cut
-  cut_is t e = rw t at e
-
-  pub entries_are : {t : Bool} → t ≡ same_bool f.big g.big
-      → r ≡ t && eqb f.offsets g.offsets && eqb f.counts g.counts && eqb f.entries g.entries → r ≡ same_entries f g
-  unfolding same_entries
-  entries_are t e = rw t at e
-
-module _ (f g : Format) {s : Bool} (es : s ≡ same_sides f g) where
-  pub sides_differ : s ≡ false → false ≡ same_format f g
-  unfolding same_format
-  sides_differ q = rw (← es, q)
-
-  module _ (qs : s ≡ true) {t : Bool} (et : t ≡ same_cut f g) where
-    pub cut_differs : t ≡ false → false ≡ same_format f g
-    unfolding same_format
-    cut_differs q = rw (← es, qs, ← et, q)
-
-    module _ (qt : t ≡ true) {u : Bool} (eu : u ≡ same_entries f g) where
-      pub entries_differ : u ≡ false → false ≡ same_format f g
-      unfolding same_format
-      entries_differ q = rw (← es, qs, ← et, qt, ← eu, q)
-
-      pub format_is : {r : Bool} → u ≡ true → r ≡ same_bool f.mono g.mono → r ≡ same_format f g
-      unfolding same_format
-      format_is q e = rw (← es, qs, ← et, qt, ← eu, q) e
-
-pub handle_is : (g h : Handle) {t r : Bool} → t ≡ same_format g.format h.format
-    → r ≡ t && eqb g.page h.page && eqb g.scratch h.scratch && eqb g.work h.work → r ≡ same_handle g h
-unfolding same_handle
-handle_is g h t e = rw t at e
-
-pub ruleset comparisons = (sides_are, cut_is, entries_are, sides_differ, cut_differs, entries_differ, format_is, handle_is, not-true, not-false, rules)
+-- the derived test of two handles compares their fields in the order in which they stand
+pub compared : (g h : Handle) {r : Bool}
+    → r
+    ≡ (eqb g.format.width h.format.width
+    && (eqb g.format.height h.format.height
+    && (eqb g.format.block_width h.format.block_width
+    && (eqb g.format.block_height h.format.block_height
+    && (eqb g.format.across h.format.across
+    && (eqb g.format.segments h.format.segments
+    && (eqb g.format.output h.format.output
+    && (eqb g.format.offsets h.format.offsets
+    && (eqb g.format.counts h.format.counts
+    && (eqb g.format.entries h.format.entries
+    && (beq g.format.tiled h.format.tiled
+    && (beq g.format.big h.format.big
+    && beq g.format.mono h.format.mono))))))))))))
+    && (eqb g.page h.page && (eqb g.scratch h.scratch && eqb g.work h.work))
+    → r ≡ same_handle g h
+unfolding same_handle same_format same_sides same_cut same_entries
+compared g h e = e ∙ simp (flag_compared, regrouped)
 
 -- equal handles
 all_hold : (a b c d : Bool) → a && b && c && d ≡ true → (a ≡ true) × (b ≡ true) × (c ≡ true) × (d ≡ true)

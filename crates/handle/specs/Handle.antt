@@ -1,31 +1,33 @@
 -- What an inspection answers, and when two handles are equal.
-use Rattle.std.specs.Prelude.{ℕ, Bool, false, not, ◌&&◌, eqb}
+use Rattle.std.specs.Prelude.{ℕ, Bool, false, not, ◌&&◌, eqb, Result, Ok, Err}
 use Rattle.lists.specs.Lists.{pick}
-use Rattle.checks.specs.declared.Told.{Told}
-use Rattle.checks.specs.declared.Told.TheVariants as ToldIs
+use Rattle.checks.specs.Numbers.{Told, told_number}
+use Rattle.checks.specs.Checks.{giving_left}
+use Rattle.checks.specs.declared.Refused.{Refused}
 use Rattle.picture.specs.declared.Format.{Format}
 use Rattle.handle.specs.declared.Handle.{Handle}
 use Rattle.handle.specs.declared.Inspected.{Inspected}
-use Rattle.handle.specs.declared.Inspected.TheVariants.{Refused, Picture}
+
+-- a picture's handle, with so many units left
+abbrev pub inspected_with : Handle → ℕ → Inspected
+inspected_with h u = record { handle = h; left = u }
 
 -- the answer of checks that give this handle where they pass
-abbrev pub inspected : Told → Handle → Inspected
-inspected (ToldIs.Passed u) h = Picture h u
-inspected (ToldIs.Refused e u) h = Refused e u
+abbrev pub inspected : Told → Handle → Result Inspected Refused
+inspected t h = giving_left t (inspected_with h)
 
 -- the number of an answer, 0 where it is a picture, and the units left
-abbrev pub inspected_number : Inspected → ℕ
-inspected_number (Picture h left) = 0
-inspected_number (Refused e left) = e
+abbrev pub inspected_number : Result Inspected Refused → ℕ
+inspected_number r = told_number r
 
-abbrev pub inspected_left : Inspected → ℕ
-inspected_left (Picture h left) = left
-inspected_left (Refused e left) = left
+abbrev pub inspected_left : Result Inspected Refused → ℕ
+inspected_left (Ok i) = i.left
+inspected_left (Err r) = r.left
 
 -- what stands beside an answer: one thing where it is a picture, another after a refusal
-abbrev pub on_inspected : {X : Type 0} → Inspected → X → X → X
-on_inspected (Picture h left) x y = x
-on_inspected (Refused e left) x y = y
+abbrev pub on_inspected : {X : Type 0} → Result Inspected Refused → X → X → X
+on_inspected (Ok i) x y = x
+on_inspected (Err r) x y = y
 
 -- equal in every field (rule 7.4)
 abbrev pub same_bool : Bool → Bool → Bool
@@ -51,6 +53,6 @@ unfoldable pub same_handle : Handle → Handle → Bool
 same_handle g h = same_format g.format h.format && eqb g.page h.page && eqb g.scratch h.scratch && eqb g.work h.work
 
 -- an answer gives a handle where it is a picture with that handle
-abbrev pub gives : Inspected → Handle → Bool
-gives (Picture g u) h = same_handle g h
-gives (Refused e u) h = false
+abbrev pub gives : Result Inspected Refused → Handle → Bool
+gives (Ok i) h = same_handle i.handle h
+gives (Err r) h = false
