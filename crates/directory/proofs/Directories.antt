@@ -4,7 +4,7 @@ use mathlib.Core.Path.{◌≡◌, refl, sym, ap, ◌∙◌}
 use mathlib.Core.List.{List, [], ◌∷◌, ◌++◌, append_assoc}
 use mathlib.Core.Bool.{Bool, true, false}
 use native.Mathlib.Omega.{arith}
-use Rattle.std.specs.Prelude.{Result, Ok, Err, Some, None, MatchResult}
+use Rattle.std.specs.Prelude.{Result, Ok, Err, Some, None}
 use Rattle.lists.specs.Lists.{pick}
 use Rattle.checks.specs.Numbers.{Told, invalid, leaving}
 use Rattle.checks.specs.Checks.{Check, must, pay, run, verdict, cost, giving_left}
@@ -19,16 +19,6 @@ use Rattle.tags.specs.Inner.{tags_of}
 use Rattle.directory.specs.Directory.{entries_at, count_checks, body_checks, directory_fee_checks, tag_checks, directory_checks, directory_at, given, Gives}
 use Rattle.directory.specs.Inner.{number_checks, counted}
 use Rattle.directory.specs.declared.Directory.{Directory}
-
--- a call whose refusals are handed on with the units left: what it gave, or its refusal
-pub passed_on : {X : Type 0} {s : Result X Refusal} {x : X} → MatchResult s (λ y. ◌≡◌ {A = Result X Refused} (Ok x) (Ok y)) (λ e. ⊥) → Ok x ≡ s
-passed_on {s = Ok y} m = ap Ok cc
-passed_on {s = Err e} m = absurd m
-
-pub refused_on : {X : Type 0} {P : Refusal → Type 0} {s : Result X Refusal} {r : Refused} (left : ℕ) → ((e : Refusal) → P e → r ≡ leaving e left)
-    → MatchResult s (λ y. ◌≡◌ {A = Result X Refused} (Err r) (Ok y)) P → (e : Refusal) × (Err e ≡ s) × (r ≡ leaving e left)
-refused_on {s = Ok y} left f m = absurd cc
-refused_on {s = Err e} left f m = (e, refl, f e m)
 
 -- the number of entries
 module _ (v : Seen) (big : Bool) (maxTags at : ℕ) where

@@ -1,17 +1,17 @@
 -- One segment of a strict inspection: the plan charges nothing, then the fee, then the packets of the stored bytes.
 use Prim.Native.Nat.{ℕ, ◌+◌, ◌-◌, ◌<◌}
-use mathlib.Core.Path.{◌≡◌, refl, sym, ap, ◌∙◌}
+use mathlib.Core.Path.{◌≡◌, sym, ap}
 use mathlib.Core.List.{List, [], ◌∷◌}
 use native.Mathlib.Nat.{add-sub_cancel_left}
 use lib.ListN.{take, drop}
 use borrow.Author.Rules.{rules}
-use Rattle.checks.specs.Checks.{pay, run, verdict, cost}
-use Rattle.checks.specs.declared.Told.{Told}
-use Rattle.checks.specs.declared.Told.TheVariants.{Refused, Passed}
-use Rattle.checks.specs.declared.Verdict.{Verdict}
-use Rattle.checks.specs.declared.Verdict.TheVariants as VerdictIs
+use Rattle.std.specs.Prelude.{Ok, Err}
+use Rattle.checks.specs.Numbers.{Verdict, Told, leaving}
+use Rattle.checks.specs.Checks.{Check, pay, run, verdict, cost}
+use Rattle.checks.specs.declared.Refusal.{Refusal}
+use Rattle.checks.specs.declared.Refused.{Refused}
 use Rattle.checks.proofs.Exact.{run_fine, run_refused}
-use Rattle.checks.proofs.Rules.{ended, onward, ended_free, onward_free}
+use Rattle.checks.proofs.Rules.{ended_by, goes_on, ended_by_free, goes_on_free}
 use Rattle.seen.specs.Seen.{Seen, seen}
 use Rattle.seen.proofs.Words.{bytes_there}
 use Rattle.packets.specs.Packets.{packet_checks, part}
@@ -21,8 +21,6 @@ use Rattle.picture.specs.Picture.{needed_of}
 use Rattle.picture.specs.Inner.{Readable}
 use Rattle.plan.specs.Plan.{plan_checks, plan_is}
 use Rattle.plan.specs.declared.Plan.{Plan}
-use Rattle.plan.specs.declared.Planned.{Planned}
-use Rattle.plan.specs.declared.Planned.TheVariants as PlannedIs
 use Rattle.plan.proofs.Planning.{Located, range_is_there, plan_free, PlannedSo, not_planned, planned_so, plan_located}
 use Rattle.logluv_segment.specs.Segment.{fill_checks, stored, stored_checks, fee_checks, segment_checks}
 use Rattle.logluv_segment.specs.Inner.{InFile}
@@ -60,49 +58,47 @@ module _ (file : List ℕ) (f : Format) (k offset count : ℕ) where
 
 pub ruleset packets = (packets_told, some_stride, rules)
 
--- the fee, then the packets
-module _ (f : Format) (k fee left : ℕ) (bytes : List ℕ) {r : Told} (er : r ≡ run (pay fee ∷ []) left) where
-  pub fee_refused : (e u : ℕ) → r ≡ Refused e u → Refused e u ≡ run (pay fee ∷ fill_checks f k bytes) left
-  fee_refused e u q = ended (pay fee ∷ []) (fill_checks f k bytes) left e u er q
+-- the plan, the fee, the packets
+module _ (file map : List ℕ) (f : Format) (m k left : ℕ) where
+  abbrev answer : Told
+  answer = run (segment_checks (seen file map) f m k) left
 
-  module _ (u : ℕ) (q : r ≡ Passed u) {t : Verdict} (et : t ≡ verdict (fill_checks f k bytes)) where
-    paid : {s : Told} → s ≡ run (fill_checks f k bytes) u → s ≡ run (pay fee ∷ fill_checks f k bytes) left
-    paid e = onward (pay fee ∷ []) (fill_checks f k bytes) left u er q e
+  free : cost (plan_checks (seen file map) f m k) ≡ 0
+  free = plan_free (seen file map) f m k
 
-    pub packets_refused : (e : ℕ) → t ≡ VerdictIs.Refused e → Refused e u ≡ run (pay fee ∷ fill_checks f k bytes) left
-    packets_refused e z = paid (sym (run_refused (fill_checks f k bytes) u e (fill_free f k bytes) (sym et ∙ z)))
-
-    pub packets_fine : t ≡ VerdictIs.Fine → Passed u ≡ run (pay fee ∷ fill_checks f k bytes) left
-    packets_fine z = paid (sym (run_fine (fill_checks f k bytes) u (fill_free f k bytes) (sym et ∙ z)))
-
-pub ruleset stored_packets = (fee_refused, packets_refused, packets_fine, rules)
-
--- the plan, then these
-module _ (file map : List ℕ) (f : Format) (m k : ℕ) {r : Planned} (er : r ≡ plan_is (seen file map) f m k) where
-  pub plan_refused : (e left : ℕ) → r ≡ PlannedIs.Refused e → Refused e left ≡ run (segment_checks (seen file map) f m k) left
+  pub plan_refused : {e : Refusal} {r : Refused} → Err e ≡ plan_is (seen file map) f m k → r ≡ leaving e left → Err r ≡ answer
   unfolding segment_checks
-  plan_refused e left q =
-      ended_free (plan_checks (seen file map) f m k) (fee_checks (seen file map) f k) left e
-      (plan_free (seen file map) f m k) refl (not_planned (seen file map) f m k er e q)
+  plan_refused q z = rw z (ended_by_free (plan_checks (seen file map) f m k) (fee_checks (seen file map) f k) left free (sym (not_planned (seen file map) f m k q)))
 
-  module _ (p : Plan) (q : r ≡ PlannedIs.Fine p) where
+  module _ {p : Plan} (q : Ok p ≡ plan_is (seen file map) f m k) where
     so : PlannedSo (seen file map) f m k p
-    so = planned_so (seen file map) f m k er p q
+    so = planned_so (seen file map) f m k q
 
-    here : Located (seen file map) f k p.offset p.count
+    here : Located (seen file map) f k p.stored.offset p.stored.count
     here = plan_located (seen file map) f m k p so
 
-    pub plan_in_file : Readable (seen file map) f → k < f.segments → InFile file f k p.offset p.count
-    plan_in_file ok h = located_in file map f k p.offset p.count here ok h
+    pub plan_in_file : Readable (seen file map) f → k < f.segments → InFile file f k p.stored.offset p.stored.count
+    plan_in_file ok h = located_in file map f k p.stored.offset p.stored.count here ok h
 
-    plan_checks_lem : pay p.fee ∷ fill_checks f k (part file p.offset p.count) ≡ fee_checks (seen file map) f k
-    plan_checks_lem = rw (← stored_checks_lem file map f k p.offset p.count here, so.is)
+    abbrev fill : List Check
+    fill = fill_checks f k (part file p.stored.offset p.stored.count)
 
-    pub plan_passed : (left : ℕ) {t : Told} → t ≡ run (pay p.fee ∷ fill_checks f k (part file p.offset p.count)) left
-        → t ≡ run (segment_checks (seen file map) f m k) left
+    checks_are : pay p.fee ∷ fill ≡ fee_checks (seen file map) f k
+    checks_are = rw (← stored_checks_lem file map f k p.stored.offset p.stored.count here, so.is)
+
+    plan_passed : {t : Told} → t ≡ run (pay p.fee ∷ fill) left → t ≡ answer
     unfolding segment_checks
-    plan_passed left e =
-        onward_free (plan_checks (seen file map) f m k) (fee_checks (seen file map) f k) left
-        (plan_free (seen file map) f m k) refl so.passed (rw plan_checks_lem at e)
+    plan_passed e = goes_on_free (plan_checks (seen file map) f m k) (fee_checks (seen file map) f k) left free (sym so.passed) (rw checks_are at e)
 
-pub ruleset segments = (plan_refused, plan_in_file, plan_passed, rules)
+    pub fee_refused : {r : Refused} → Err r ≡ run (pay p.fee ∷ []) left → Err r ≡ answer
+    fee_refused z = plan_passed (ended_by (pay p.fee ∷ []) fill left z)
+
+    module _ {u : ℕ} (paid : Ok u ≡ run (pay p.fee ∷ []) left) where
+      fee_taken : {t : Told} → t ≡ run fill u → t ≡ answer
+      fee_taken e = plan_passed (goes_on (pay p.fee ∷ []) fill left paid e)
+
+      pub packets_refused : {e : Refusal} {r : Refused} → Err e ≡ verdict fill → r ≡ leaving e u → Err r ≡ answer
+      packets_refused {e} z i = rw i (fee_taken (sym (run_refused fill u e (fill_free f k _) (sym z))))
+
+      pub packets_fine : {y : Unit {0}} → Ok y ≡ verdict fill → Ok u ≡ answer
+      packets_fine z = fee_taken (sym (run_fine fill u (fill_free f k _) (sym z)))

@@ -3,8 +3,9 @@ use mathlib.Core.Path.{◌∙◌}
 use native.Mathlib.Omega.{arith}
 use borrow.Author.Rules.{rules}
 use Rattle.checks.proofs.Rules.{handed_on}
+use Rattle.checks.proofs.Leaving.{passed_on, refused_on}
 use Rattle.seen.specs.Seen.{seen}
-use Rattle.directory.proofs.Directories.{passed_on, refused_on, directory_uncounted, entries_fit, tags_there, next_there}
+use Rattle.directory.proofs.Directories.{directory_uncounted, entries_fit, tags_there, next_there}
 use Rattle.directory.proofs.read_directory.Goals as goal
 
 pub returns-in_err-entries : goal.returns-in_err-entries
