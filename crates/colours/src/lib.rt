@@ -10,6 +10,7 @@ ghost use Rattle.colours.specs.Inner.{Gridded};
 
 use checks::Size;
 use summary::grey;
+use summary::grey::Picture;
 
 // Rows of pixels that are cut into blocks, so many across.
 #[derive(Clone, Copy)]
@@ -92,39 +93,40 @@ fn code_at(quality: &[u8], k: usize) -> u8
 
 // The colours of the first pixels, as many as are lent.
 #[tactic(auto, using(crate::proofs::Colouring::filling), unfolding(crate::specs::Colours::colour_at))]
-fn fill(size: usize, picture: &[u8], quality: &[u8], grid: &Grid, out: &mut [u8])
-    requires { length out.old ≤ whole_pixels size (length picture.now) }
+fn fill(picture: &Picture, quality: &[u8], grid: &Grid, out: &mut [u8])
+    requires { length out.old ≤ whole_pixels picture.now.size (length picture.now.bytes.now) }
     ensures { out.new ≡ tabulate (length out.old)
-        (colour_at size picture.now quality.now grid.now.width grid.now.block_width grid.now.block_height) }
+        (colour_at picture.now.size picture.now.bytes.now quality.now grid.now.width grid.now.block_width grid.now.block_height) }
 {
     for (p, colour) in out.iter_mut().enumerate() {
         let code = code_at(quality, grid.segment_of(p));
-        *colour = colour_of(code, tone_of(grey::light_at(size, picture, p)));
+        *colour = colour_of(code, tone_of(grey::light_at(picture, p)));
     }
 }
 
-// The colours of all pixels, of so many bytes each, at the start of the buffer, and how many there are. Where there are none the
-// buffer stays.
+// The colours of all pixels at the start of the buffer, and how many there are. Where there are none the buffer stays.
 #[tactic(auto, using(crate::proofs::Colouring::coloured))]
 pub fn put_colours(
-    size: usize,
-    picture: &[u8],
+    picture: &Picture,
     quality: &[u8],
-    width: usize,
-    height: usize,
     block_width: usize,
     block_height: usize,
     out: &mut [u8],
 ) -> usize
-    ensures answer { result ≡ colours_in size width height block_width block_height (length picture.now) (length out.old) }
-    ensures buffer { out.new ≡ overlay (tabulate result (colour_at size picture.now quality.now width block_width block_height))
+    ensures answer { result ≡ colours_in picture.now.size picture.now.width picture.now.height block_width block_height
+        (length picture.now.bytes.now) (length out.old) }
+    ensures buffer { out.new ≡ overlay
+        (tabulate result (colour_at picture.now.size picture.now.bytes.now quality.now picture.now.width block_width block_height))
         out.old }
 {
-    let Some(grid) = grid_of(width, block_width, block_height) else {
+    let Some(grid) = grid_of(picture.width, block_width, block_height) else {
         return 0;
     };
-    let most = records::least(grey::whole_pixels(size, picture.len()), out.len());
-    let n = grid.count(height, most);
-    fill(size, picture, quality, &grid, &mut out[..n]);
+    let most = records::least(
+        grey::whole_pixels(picture.size, picture.bytes.len()),
+        out.len(),
+    );
+    let n = grid.count(picture.height, most);
+    fill(picture, quality, &grid, &mut out[..n]);
     n
 }

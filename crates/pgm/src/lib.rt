@@ -7,6 +7,7 @@ ghost use Rattle.pgm.specs.Pgm.{decimal_of, header_of, greys_in, pgm_in};
 ghost use Rattle.placing.specs.Placing.{BytesPlaced};
 
 use summary::grey;
+use summary::grey::Picture;
 
 // A number into the buffer at a place, in at most twenty digits; the place after it.
 #[tactic(auto, using(crate::proofs::Decimals::decimals))]
@@ -34,34 +35,32 @@ fn put_header(width: usize, height: usize, out: &mut [u8]) -> usize
 
 // The grey values of all pixels into the buffer at a place, as far as there is room; the place after them.
 #[tactic(auto, using(crate::proofs::GreyFile::grey_file))]
-fn put_pixels(
-    size: usize,
-    picture: &[u8],
-    width: usize,
-    height: usize,
-    start: usize,
-    out: &mut [u8],
-) -> usize
+fn put_pixels(picture: &Picture, start: usize, out: &mut [u8]) -> usize
     requires { start ≤ length out.old }
-    ensures { BytesPlaced (greys_in size width height picture.now (length out.old - start)) start out.old result
-        out.new }
+    ensures { BytesPlaced
+        (greys_in picture.now.size picture.now.width picture.now.height picture.now.bytes.now (length out.old - start))
+        start out.old result out.new }
 {
-    let most = records::least(grey::whole_pixels(size, picture.len()), out.len() - start);
-    let end = start + grey::pixels_of(width, height, most);
-    grey::put_grey(size, picture, &mut out[start..end]);
+    let most = records::least(
+        grey::whole_pixels(picture.size, picture.bytes.len()),
+        out.len() - start,
+    );
+    let end = start + grey::pixels_of(picture.width, picture.height, most);
+    grey::put_grey(picture, &mut out[start..end]);
     end
 }
 
-// The file's bytes at the start of the buffer, and how many there are: none where the longest header has no room. The picture has
-// so many bytes a pixel; where these lack the two of L, the header stands alone.
+// The file's bytes at the start of the buffer, and how many there are: none where the longest header has no room. Where a pixel's
+// bytes lack the two of L, the header stands alone.
 #[tactic(auto, using(crate::proofs::GreyFile::grey_file))]
-pub fn put(size: usize, picture: &[u8], width: usize, height: usize, out: &mut [u8]) -> usize
+pub fn put(picture: &Picture, out: &mut [u8]) -> usize
     ensures prefix_len { IsPrefixLen result out.new }
-    ensures out_after { take result out.new ≡ pgm_in size width height picture.now (length out.old) }
+    ensures out_after { take result out.new
+        ≡ pgm_in picture.now.size picture.now.width picture.now.height picture.now.bytes.now (length out.old) }
 {
     if out.len() < 49 {
         return 0;
     }
-    let start = put_header(width, height, out);
-    put_pixels(size, picture, width, height, start, out)
+    let start = put_header(picture.width, picture.height, out);
+    put_pixels(picture, start, out)
 }

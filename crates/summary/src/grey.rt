@@ -5,6 +5,15 @@ ghost use Rattle.summary.specs.Grey.{grey_of, light_at, grey_at, whole_pixels};
 
 use checks::Size;
 
+// A picture as its bytes, so many of them a pixel, and its sides.
+#[derive(Clone, Copy)]
+pub struct Picture<'a> {
+    pub bytes: &'a [u8],
+    pub size: usize,
+    pub width: usize,
+    pub height: usize,
+}
+
 #[tactic(auto, unfolding(crate::specs::Grey::grey_of))]
 fn grey_of(l: usize) -> u8
     ensures { result ≡ grey_of l }
@@ -22,22 +31,22 @@ pub fn whole_pixels(size: usize, bytes: usize) -> usize
 
 // L of a pixel.
 #[tactic(auto, unfolding(crate::specs::Grey::light_at))]
-pub fn light_at(size: usize, picture: &[u8], k: usize) -> usize
-    requires { size * k + 2 ≤ length picture.now }
-    ensures { result ≡ light_at size picture.now k }
+pub fn light_at(picture: &Picture, k: usize) -> usize
+    requires { picture.now.size * k + 2 ≤ length picture.now.bytes.now }
+    ensures { result ≡ light_at picture.now.size picture.now.bytes.now k }
 {
-    let low = size * k;
-    usize::from(u16::from_le_bytes([picture[low], picture[low + 1]]))
+    let low = picture.size * k;
+    usize::from(u16::from_le_bytes([picture.bytes[low], picture.bytes[low + 1]]))
 }
 
 // A grey value for each pixel, as many as are lent.
 #[tactic(auto, using(placing::proofs::Filled::tabulated))]
-pub fn put_grey(size: usize, picture: &[u8], grey: &mut [u8])
-    requires { length grey.old ≤ whole_pixels size (length picture.now) }
-    ensures { grey.new ≡ tabulate (length grey.old) (grey_at size picture.now) }
+pub fn put_grey(picture: &Picture, grey: &mut [u8])
+    requires { length grey.old ≤ whole_pixels picture.now.size (length picture.now.bytes.now) }
+    ensures { grey.new ≡ tabulate (length grey.old) (grey_at picture.now.size picture.now.bytes.now) }
 {
     for (k, value) in grey.iter_mut().enumerate() {
-        *value = grey_of(light_at(size, picture, k));
+        *value = grey_of(light_at(picture, k));
     }
 }
 

@@ -6,4 +6,4 @@ use Rattle.colours.proofs.fill.Given as goal
 
 abbrev pub invariant-loop-p : goal.invariant-loop-p
 invariant-loop-p l =
-    (k : ℕ) → k < l.p → get_or l.out k 0 ≡ colour_at l.size l.picture l.quality l.grid.width l.grid.block_width l.grid.block_height k
+    (k : ℕ) → k < l.p → get_or l.out k 0 ≡ colour_at l.picture.size l.picture.bytes.now l.quality l.grid.width l.grid.block_width l.grid.block_height k

@@ -5,4 +5,4 @@ use Rattle.summary.specs.Grey.{grey_at}
 use Rattle.summary.proofs.grey.put_grey.Given as goal
 
 abbrev pub invariant-loop-k : goal.invariant-loop-k
-invariant-loop-k l = (i : ℕ) → i < l.k → get_or l.grey i 0 ≡ grey_at l.size l.picture i
+invariant-loop-k l = (i : ℕ) → i < l.k → get_or l.grey i 0 ≡ grey_at l.picture.size l.picture.bytes.now i
