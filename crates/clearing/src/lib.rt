@@ -13,6 +13,7 @@ pub fn clear(part: &mut [u8])
 }
 
 // Rows of so many bytes, the first at `first`, each further one a pitch later.
+// By their numbers: of what chunks_mut lends in a loop no element is known afterwards.
 #[tactic(auto, using(crate::proofs::ClearedRows::blanks))]
 pub fn clear_rows(size: usize, rows: usize, first: usize, pitch: usize, out: &mut [u8])
     requires { Clearable size rows first pitch (length out.old) }

@@ -31,7 +31,7 @@ impl Grid {
         p / self.width / self.block_height * self.across + p % self.width / self.block_width
     }
 
-    // How many pixels so many rows have, or 0 where they are more than can be.
+    // How many pixels so many rows have, or 0, as the definition says, where they are more than can be.
     #[tactic(auto, using(crate::proofs::Colouring::counting), unfolding(crate::specs::Colours::coloured_in))]
     fn count(&self, height: usize, most: usize) -> usize
         ensures all { result ≡ coloured_in self.now.width height self.now.block_width self.now.block_height most }

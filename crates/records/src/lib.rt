@@ -11,18 +11,21 @@ use checks::Verdict;
 // A checksum of a whole buffer.
 pub mod crc;
 
+// A byte as a length.
 pub fn wide(x: u8) -> usize
     ensures { (result ≡ x) × (result < 256) }
 {
     usize::from(x)
 }
 
+// The lesser of two lengths, under the name that the programs' theorems have for it.
 pub fn least(a: usize, b: usize) -> usize
     ensures { (result ≡ lesser a b) × (result ≤ a) × (result ≤ b) }
 {
     a.min(b)
 }
 
+// In two halves, which `words` reads: its clause speaks of what is seen of a file, as the definition does.
 #[tactic(auto, unfolding(crate::specs::Records::eight))]
 fn read(file: &[u8], at: usize) -> usize
     requires { There (seen file.now []) at 8 }
