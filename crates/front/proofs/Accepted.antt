@@ -1,6 +1,6 @@
 -- The front part of a reading passes its checks exactly if it is fine, and the format that it then finds can be read.
 use Prim.Native.Nat.{ℕ, ◌+◌, ◌<◌}
-use mathlib.Core.Path.{◌≡◌, refl, ap, ◌∙◌}
+use mathlib.Core.Path.{◌≡◌, refl, sym, ap, ◌∙◌}
 use mathlib.Core.Logic.Iff
 use mathlib.Core.Logic.{◌↔◌}
 use mathlib.Core.List.{List, ◌∷◌, ◌++◌}
@@ -8,14 +8,10 @@ use mathlib.Core.Bool.{Bool, true, false, not}
 use native.Mathlib.Omega.{arith}
 use borrow.Author.Tests.{eqb-true, eqb-false}
 use Rattle.checks.specs.Checks.{Check, pay, run, Holds, cost}
-use Rattle.checks.specs.declared.Told.{Told}
-use Rattle.checks.specs.declared.Told.TheVariants as ToldIs
-use Rattle.checks.specs.declared.Told.TheVariants.{Passed}
 use Rattle.checks.specs.Exact.{Exact}
-use Rattle.checks.proofs.Exact.{accepted, both, cost_then, fine}
+use Rattle.checks.proofs.Exact.{accepted, both, cost_then}
 use Rattle.seen.specs.Seen.{Seen, There}
 use Rattle.header.specs.Header.{header_checks, big_endian, first_of, HeaderFine}
-use Rattle.checks.specs.declared.Verdict.TheVariants as VerdictIs
 use Rattle.directory.specs.Directory.{entries_at, slots_at}
 use Rattle.tiff.specs.Walk.{walk_checks}
 use Rattle.directory.specs.Accepted.{DirectoryFine}
@@ -34,8 +30,10 @@ use Rattle.profile.proofs.Answers.{profile_free}
 use Rattle.profile.proofs.Accepted.{profile_holds, valid}
 use Rattle.front.specs.Front.{profile_fee, slots_seen, page_seen, front_checks, format_seen, found, found_of}
 use Rattle.front.specs.Accepted.{front_fee, FrontFine}
-use Rattle.front.proofs.Fronts.{goes_on_lem}
-use Rattle.front.specs.declared.Found.TheVariants.{Picture}
+use Rattle.checks.proofs.Rules.{checks_passed}
+use Rattle.front.specs.declared.Found.{Found}
+use Rattle.checks.specs.Numbers.{Told}
+use Rattle.std.specs.Prelude.{Ok}
 
 -- so the format of a fine page can be read
 module _ (v : Seen) (b : Bool) (maxTags at : ℕ) (l : Limits) (d : DirectoryFine v b maxTags at) (f : ProfileFine v b (slots_at v b at) l) where
@@ -119,18 +117,20 @@ module _ (v : Seen) (page : ℕ) (l : Limits) where
     }
 
     -- the front part passes, and leaves so many units, exactly if all of this is true
-    pub front_fine : (run (front_checks v page l) u ≡ Passed w) ↔ FrontFine v page l u w
+    pub front_fine : (run (front_checks v page l) u ≡ Ok w) ↔ FrontFine v page l u w
     front_fine = Iff.trans (accepted (front_checks v page l) u w) (exact_is, is_exact)
 
     -- so a picture is found exactly then, and its format is that of the page's directory
-    pub picture_found : (f : Format) → (found_of v page l u ≡ Picture f w) ↔ (FrontFine v page l u w × (f ≡ format_seen v page))
+    pub picture_found : (f : Format) → (found_of v page l u ≡ Ok (record { format = f; left = w })) ↔ (FrontFine v page l u w × (f ≡ format_seen v page))
     picture_found f = (
-      λ e. let p = goes_on_lem (run (front_checks v page l) u) (format_seen v page) f w e in (front_fine.0 p.0, p.1),
+      λ e.
+          let (left, t, k) = checks_passed (run (front_checks v page l) u) _ (sym e) in
+          (front_fine.0 (t ∙ ap (λ (x : Found). Ok x.left) (sym k)), ap (λ (x : Found). x.format) k),
       λ p. rw (front_fine.1 p.0, p.1),
     )
 
     -- and can be read
-    pub readable : (f : Format) → found_of v page l u ≡ Picture f w → Readable v f
+    pub readable : (f : Format) → found_of v page l u ≡ Ok (record { format = f; left = w }) → Readable v f
     readable f e =
         let p = (picture_found f).0 e in
         rw p.1 (page_readable v (big_endian v) l.max_tags (page_seen v page) l (p.0.directories.is_fine page (omega arith)) p.0.profile)

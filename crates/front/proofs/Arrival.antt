@@ -8,9 +8,9 @@ use lib.ListN.{length}
 use lib.Dec.{ltb, leb, eqb}
 use borrow.Author.Tests.{ltb-true}
 use Rattle.head.specs.Heads.{channels_of}
-use Rattle.checks.specs.Numbers.{truncated, invalid, unsupported, limit, page_not_found, budget, not_arrived}
+use Rattle.checks.specs.Numbers.{number_of, truncated, invalid, unsupported, limit, page_not_found, budget, not_arrived, leaving}
 use Rattle.checks.specs.Checks.{Check, must, pay, run, Never}
-use Rattle.checks.specs.declared.Told.TheVariants.{Refused}
+use Rattle.checks.specs.declared.Refusal.{Refusal}
 use Rattle.checks.proofs.Exact.{never, never_both}
 use Rattle.seen.specs.Seen.{Seen, seen, arrived, whole, there, Agree}
 use Rattle.seen.proofs.Blocks.{true_false}
@@ -25,41 +25,42 @@ use Rattle.profile.specs.Profile.{scalars, scalar_checks, step1, step2, step3, e
 use Rattle.profile.specs.Inner.{from7, from5, from2}
 use Rattle.profile.specs.declared.Numbers.{Numbers}
 use Rattle.front.specs.Front.{profile_fee, slots_seen, front_checks, found_of}
+use Rattle.std.specs.Prelude.{Err}
 
 -- a list that has no numbers but 1 to 7 cannot give any other
 usual : List Check → Bool
 usual [] = true
-usual (must b n ∷ cs) = ltb 0 n && ltb n not_arrived && usual cs
+usual (must b e ∷ cs) = ltb 0 (number_of e) && ltb (number_of e) 8 && usual cs
 usual (pay n ∷ cs) = usual cs
 
 -- a number that is none of these
 abbrev pub Unusual : ℕ → Type 0
-Unusual number = (n : ℕ) → 0 < n → n < not_arrived → n ≡ number → ⊥
+Unusual number = (n : ℕ) → 0 < n → n < 8 → n ≡ number → ⊥
 
 pub zero_unusual : Unusual 0
 zero_unusual n a b z = omega arith
 
-pub missing_unusual : Unusual not_arrived
+pub missing_unusual : Unusual 8
 missing_unusual n a b z = omega arith
 
 module _ (number : ℕ) (unusual : Unusual number) where
   usual_never : (cs : List Check) → usual cs ≡ true → Never number cs
   unfolding usual Never
   usual_never [] h = tt
-  usual_never (must b n ∷ cs) h = by (ltb 0 n) (ltb n not_arrived) refl refl h (usual_never cs)
+  usual_never (must b e ∷ cs) h = by (ltb 0 (number_of e)) (ltb (number_of e) 8) refl refl h (usual_never cs)
     where
-      by : (s t : Bool) → ltb 0 n ≡ s → ltb n not_arrived ≡ t → s && t && usual cs ≡ true → (usual cs ≡ true → Never number cs)
-          → (n ≡ number → b ≡ true) × Never number cs
-      by true true p q h k = (λ z. absurd (unusual n (ltb-true 0 n p) (ltb-true n not_arrived q) z), k h)
+      by : (s t : Bool) → ltb 0 (number_of e) ≡ s → ltb (number_of e) 8 ≡ t → s && t && usual cs ≡ true → (usual cs ≡ true → Never number cs)
+          → (number_of e ≡ number → b ≡ true) × Never number cs
+      by true true p q h k = (λ z. absurd (unusual (number_of e) (ltb-true 0 (number_of e) p) (ltb-true (number_of e) 8 q) z), k h)
       by true false p q h k = absurd (true_false h refl)
       by false t p q h k = absurd (true_false h refl)
-  usual_never (pay n ∷ cs) h = (unusual budget (omega arith) (omega arith), usual_never cs h)
+  usual_never (pay n ∷ cs) h = (unusual (number_of budget) (omega arith) (omega arith), usual_never cs h)
 
-  pub not_given : (n : ℕ) → 0 < n → n < not_arrived → {b : Bool} → n ≡ number → b ≡ true
-  not_given n a c z = absurd (unusual n a c z)
+  pub not_given : (e : Refusal) → 0 < number_of e → number_of e < 8 → {b : Bool} → number_of e ≡ number → b ≡ true
+  not_given e a c z = absurd (unusual (number_of e) a c z)
 
   -- 8 is given for nothing but bytes that did not come
-  module _ (v : Seen) (all_came : not_arrived ≡ number → (start n : ℕ) → whole v.came start n ≡ true) where
+  module _ (v : Seen) (all_came : number_of not_arrived ≡ number → (start n : ℕ) → whole v.came start n ≡ true) where
     pub never_there : (at n : ℕ) → Never number (there v at n)
     unfolding Never
     never_there at n = (not_given truncated (omega arith) (omega arith), (λ z. all_came z at n, tt))
@@ -138,17 +139,17 @@ module _ (number : ℕ) (unusual : Unusual number) where
         let profile = profile_checks v big (slots_seen v page) l in
         never_both number (header_checks v) (walk ++ (pay profile_fee ∷ profile)) never_header
         (never_both number walk (pay profile_fee ∷ profile) (never_walk big l.max_tags page (first_of v))
-        (unusual budget (omega arith) (omega arith), never_profile big (slots_seen v page) l))
+        (unusual (number_of budget) (omega arith) (omega arith), never_profile big (slots_seen v page) l))
 
 module _ (page : ℕ) (l : Limits) (u w : ℕ) where
   -- of a whole file nothing is missing
-  pub never_missing : (file : List ℕ) → run (front_checks (seen file []) page l) u ≡ Refused not_arrived w → ⊥
+  pub never_missing : (file : List ℕ) → run (front_checks (seen file []) page l) u ≡ Err (leaving not_arrived w) → ⊥
   never_missing file =
-      never not_arrived (front_checks (seen file []) page l) u w (never_front not_arrived missing_unusual (seen file []) (λ z. whole_came file) page l)
+      λ q. never 8 (front_checks (seen file []) page l) u (leaving not_arrived w) (never_front 8 missing_unusual (seen file []) (λ z. whole_came file) page l) q refl
 
   -- nor of one with a map by which every byte came
   pub never_missing_by : (file map : List ℕ) → ((i : ℕ) → i < length file → arrived map i ≡ true)
-      → run (front_checks (seen file map) page l) u ≡ Refused not_arrived w → ⊥
+      → run (front_checks (seen file map) page l) u ≡ Err (leaving not_arrived w) → ⊥
   never_missing_by file map came = rw (came_whole file map came) (never_missing file)
 
 -- answer, format and units left are the same for files that agree in all that came

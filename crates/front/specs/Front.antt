@@ -1,8 +1,6 @@
 -- The front part of every reading (rules 2.3 to 3.8): header, directories up to the page, 128 units, profile.
-use Rattle.std.specs.Prelude.{ℕ, List, ◌∷◌, ◌++◌}
-use Rattle.checks.specs.Checks.{Check, pay, run}
-use Rattle.checks.specs.declared.Told.{Told}
-use Rattle.checks.specs.declared.Told.TheVariants as ToldIs
+use Rattle.std.specs.Prelude.{ℕ, List, ◌∷◌, ◌++◌, Result, Ok, Err}
+use Rattle.checks.specs.Checks.{Check, pay, run, giving_left}
 use Rattle.seen.specs.Seen.{Seen}
 use Rattle.header.specs.Header.{header_checks, big_endian, first_of}
 use Rattle.header.specs.declared.Limits.{Limits}
@@ -11,7 +9,8 @@ use Rattle.tiff.specs.Walk.{walk_checks, page_at}
 use Rattle.profile.specs.Profile.{profile_checks, format_of}
 use Rattle.picture.specs.declared.Format.{Format}
 use Rattle.front.specs.declared.Found.{Found}
-use Rattle.front.specs.declared.Found.TheVariants.{Refused, Picture}
+use Rattle.checks.specs.declared.Refused.{Refused}
+use Rattle.checks.specs.Numbers.{Told}
 
 -- what is charged after the directories (rule 5.2)
 abbrev pub profile_fee : ℕ
@@ -36,18 +35,13 @@ module _ (v : Seen) (page : ℕ) where
   format_seen = format_of v (big_endian v) (entries_at v (big_endian v) page_seen) slots_seen
 
 -- the answer: the first refusal, or the format, each with the units left
-abbrev pub found : Told → Format → Found
-found (ToldIs.Passed u) f = Picture f u
-found (ToldIs.Refused e u) f = Refused e u
+abbrev pub found : Told → Format → Result Found Refused
+found t f = giving_left t (λ u. record { format = f; left = u })
 
-abbrev pub found_of : Seen → ℕ → Limits → ℕ → Found
+abbrev pub found_of : Seen → ℕ → Limits → ℕ → Result Found Refused
 found_of v page l left = found (run (front_checks v page l) left) (format_seen v page)
 
--- its number, 0 where nothing is refused, and the units that it leaves
-abbrev pub found_number : Found → ℕ
-found_number (Picture f u) = 0
-found_number (Refused e u) = e
-
-abbrev pub found_left : Found → ℕ
-found_left (Picture f u) = u
-found_left (Refused e u) = u
+-- the units that it leaves
+abbrev pub found_left : Result Found Refused → ℕ
+found_left (Ok f) = f.left
+found_left (Err r) = r.left

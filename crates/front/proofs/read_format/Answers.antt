@@ -1,21 +1,15 @@
 -- The header ends the list where it refuses; where it passes, the walk goes on from its byte order and first directory.
-use Rattle.front.proofs.Fronts.{fronts}
+use mathlib.Core.Path.{◌∙◌}
+use borrow.Author.Rules.{rules}
+use Rattle.checks.proofs.Rules.{handed_on}
+use Rattle.checks.proofs.Leaving.{passed_on, refused_on}
+use Rattle.front.proofs.Fronts.{header_refused, header_at}
 use Rattle.front.proofs.read_format.Goals as goal
 
-pub read_header-requires : goal.read_header-requires
-read_header-requires c = search fronts
+pub returns-in_err-start : goal.returns-in_err-start
+returns-in_err-start c =
+    let (e, q, z) = refused_on c.args.left (λ e k. search rules) c.in_err-start.ensures.cases in
+    handed_on c.from_residual.ensures.1 (header_refused _ _ _ _ (q ∙ c.read_header.ensures) z)
 
-pub enum_known-e : goal.enum_known-e
-enum_known-e c = search fronts
-
-pub enum_known-big : goal.enum_known-big
-enum_known-big c = search fronts
-
-pub read_page-requires : goal.read_page-requires
-read_page-requires c = search fronts
-
-pub returns-in-Refused : goal.returns-in-Refused
-returns-in-Refused c = search fronts
-
-pub returns-in-At : goal.returns-in-At
-returns-in-At c = search fronts
+pub returns : goal.returns
+returns c = header_at _ _ _ _ (passed_on c.in_ok-start.ensures.cases ∙ c.read_header.ensures) c.read_page.ensures

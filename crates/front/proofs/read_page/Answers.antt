@@ -1,21 +1,13 @@
 -- The walk ends the list where it refuses; the entries of a page that was found are there, and its profile goes on.
-use Rattle.front.proofs.Fronts.{fronts}
+use Rattle.checks.proofs.Rules.{handed_on}
+use Rattle.front.proofs.Fronts.{page_refused, page_slots, page_found}
 use Rattle.front.proofs.read_page.Goals as goal
 
-pub find_page-d-requires : goal.find_page-d-requires
-find_page-d-requires c = search fronts
-
-pub enum_known-told : goal.enum_known-told
-enum_known-told c = search fronts
-
-pub enum_known-told-in-Passed-1 : goal.enum_known-told-in-Passed-1
-enum_known-told-in-Passed-1 c = search fronts
+pub returns-in_err-d : goal.returns-in_err-d
+returns-in_err-d c = handed_on c.from_residual.ensures.1 (page_refused _ _ _ _ _ _ c.in_err-d.ensures)
 
 pub read_paid-requires : goal.read_paid-requires
-read_paid-requires c = search fronts
+read_paid-requires c = page_slots _ _ _ _ c.args.limits _ c.in_ok-d.ensures
 
-pub returns-in-Refused : goal.returns-in-Refused
-returns-in-Refused c = search fronts
-
-pub returns-in-Passed : goal.returns-in-Passed
-returns-in-Passed c = search fronts
+pub returns : goal.returns
+returns c = page_found _ _ _ _ _ _ c.in_ok-d.ensures c.read_paid.ensures

@@ -1,30 +1,18 @@
 -- The charge ends the list where it is not covered; else the profile's answer goes with the units left.
-use Rattle.front.proofs.Fronts.{fronts}
+use mathlib.Core.Path.{◌∙◌}
+use borrow.Author.Rules.{rules}
+use Rattle.checks.proofs.Rules.{handed_on}
+use Rattle.checks.proofs.Leaving.{passed_on, refused_on}
+use Rattle.front.proofs.Fronts.{unpaid, profile_refused, profile_fine}
 use Rattle.front.proofs.read_paid.Goals as goal
 
-pub spend-requires : goal.spend-requires
-spend-requires c = search fronts
+pub returns-in_err-rest : goal.returns-in_err-rest
+returns-in_err-rest c = handed_on c.from_residual.ensures.1 (unpaid _ _ _ _ _ _ c.in_err-rest.ensures)
 
-pub enum_known-e : goal.enum_known-e
-enum_known-e c = search fronts
+pub returns-in_err-format : goal.returns-in_err-format
+returns-in_err-format c =
+    let (e, q, z) = refused_on c.in_ok-rest.rest (λ e k. search rules) c.in_err-format.ensures.cases in
+    handed_on c.from_residual-in_err-format.ensures.1 (profile_refused _ _ _ _ _ _ c.in_ok-rest.ensures (q ∙ c.read_profile.ensures) z)
 
-pub enum_known-rest : goal.enum_known-rest
-enum_known-rest c = search fronts
-
-pub read_profile-requires : goal.read_profile-requires
-read_profile-requires c = search fronts
-
-pub enum_known-e-in-Refused-read_profile : goal.enum_known-e-in-Refused-read_profile
-enum_known-e-in-Refused-read_profile c = search fronts
-
-pub enum_known-format : goal.enum_known-format
-enum_known-format c = search fronts
-
-pub returns-in-Refused : goal.returns-in-Refused
-returns-in-Refused c = search fronts
-
-pub returns-in-Refused-read_profile : goal.returns-in-Refused-read_profile
-returns-in-Refused-read_profile c = search fronts
-
-pub returns-in-Picture : goal.returns-in-Picture
-returns-in-Picture c = search fronts
+pub returns : goal.returns
+returns c = profile_fine _ _ _ _ _ _ c.in_ok-rest.ensures (passed_on c.in_ok-format.ensures.cases ∙ c.read_profile.ensures)
