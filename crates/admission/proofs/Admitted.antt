@@ -3,7 +3,6 @@ use Prim.Native.Nat.{ℕ}
 use mathlib.Core.Path.{◌≡◌, sym, ◌∙◌}
 use mathlib.Core.List.{◌++◌}
 use Rattle.checks.specs.Checks.{run, Holds}
-use Rattle.checks.specs.declared.Told.TheVariants.{Passed}
 use Rattle.checks.proofs.Exact.{accepted, holds_then}
 use Rattle.seen.specs.Seen.{Seen, map_checks}
 use Rattle.header.specs.Header.{limit_checks}
@@ -18,10 +17,11 @@ use Rattle.picture.specs.declared.Format.{Format}
 use Rattle.admission.specs.Admission.{buffer_checks, patchy_checks, admitted}
 use Rattle.admission.specs.Inner.{room_checks, charge_checks, admit_checks, admit_page_checks}
 use Rattle.admission.specs.declared.Room.{Room}
+use Rattle.std.specs.Prelude.{Ok}
 
 module _ (v : Seen) (map page : ℕ) (l : Limits) (room : Room) (left : ℕ) {r : Found} (er : r ≡ admitted v map page l room left)
     (f : Format) (u : ℕ) (q : r ≡ Picture f u) where
-  passes : (run (patchy_checks v map page l room) left ≡ Passed u) × (f ≡ format_seen v page)
+  passes : (run (patchy_checks v map page l room) left ≡ Ok u) × (f ≡ format_seen v page)
   passes = goes_on_lem (run (patchy_checks v map page l room) left) (format_seen v page) f u (sym er ∙ q)
 
   pub admitted_format_lem : f ≡ format_seen v page

@@ -6,13 +6,12 @@ use native.Mathlib.Nat.{sub-zero}
 use native.Mathlib.Numerals.{add-one}
 use borrow.Author.Rules.{rules}
 use Rattle.checks.specs.Sizes.{within, most64}
-use Rattle.checks.specs.declared.Size.{Size}
-use Rattle.checks.specs.declared.Size.TheVariants.{Fits, Over}
 use Rattle.checks.proofs.Sizes.{fits, fits_is, over_part}
 use Rattle.seen.specs.Seen.{Seen}
 use Rattle.picture.specs.declared.Format.{Format}
 use Rattle.quality.specs.Quality.{segment_charge}
 use Rattle.admission.specs.Admission.{charges_of, picture_charge}
+use Rattle.std.specs.Prelude.{Option, Some, None}
 
 -- k segments are charged
 pub record Charging (v : Seen) (f : Format) (k total : ℕ) : Type 0 where
@@ -31,23 +30,23 @@ module _ (v : Seen) (f : Format) (k total : ℕ) (s : Charging v f k total) wher
         let e : f.segments - k ≡ suc (f.segments - (k + 1)) = omega arith in
         s.whole ∙ rw (e, add-one k)
 
-    module _ {a : Size} (ea : a ≡ within (segment_charge v f k)) where
-      pub charge_over : a ≡ Over → Over ≡ within (picture_charge v f)
+    module _ {a : Option ℕ} (ea : a ≡ within (segment_charge v f k)) where
+      pub charge_over : a ≡ None → None ≡ within (picture_charge v f)
       charge_over q = over_part (segment_charge v f k) (picture_charge v f) ea q (omega (arith, opened))
 
-      module _ (charge : ℕ) (qa : a ≡ Fits charge) {b : Size} (eb : b ≡ within (total + charge)) where
+      module _ (charge : ℕ) (qa : a ≡ Some charge) {b : Option ℕ} (eb : b ≡ within (total + charge)) where
         charge_is_lem : charge ≡ segment_charge v f k
         charge_is_lem = (fits_is (segment_charge v f k) charge ea qa).is
 
-        pub sum_over : b ≡ Over → Over ≡ within (picture_charge v f)
+        pub sum_over : b ≡ None → None ≡ within (picture_charge v f)
         sum_over q = over_part (total + charge) (picture_charge v f) eb q (omega (arith, opened, charge_is_lem))
 
-        pub charging_more : (more : ℕ) → b ≡ Fits more → Charging v f (k + 1) more
+        pub charging_more : (more : ℕ) → b ≡ Some more → Charging v f (k + 1) more
         charging_more more q =
             let t = fits_is (total + charge) more eb q in
             record { upto = omega arith; small = omega (arith, t.is, t.small); whole = omega (arith, opened, charge_is_lem, t.is) }
 
-  pub charging_all : f.segments ≤ k → Fits total ≡ within (picture_charge v f)
+  pub charging_all : f.segments ≤ k → Some total ≡ within (picture_charge v f)
   unfolding charges_of
   charging_all h =
       let e : f.segments - k ≡ 0 = omega arith in

@@ -8,10 +8,8 @@ use native.Mathlib.Nat.{eq-or-lt_of_le}
 use mathlib.Core.Logic.{⊎_elim}
 use borrow.Author.Rules.{rules}
 use borrow.Author.Tests.{le-leb, lt-leb, not-true, not-false}
-use Rattle.checks.specs.Numbers.{invalid, output_too_small}
+use Rattle.checks.specs.Numbers.{invalid, output_too_small, Told, leaving}
 use Rattle.checks.specs.Checks.{pay, run, on_pass, Holds}
-use Rattle.checks.specs.declared.Told.{Told}
-use Rattle.checks.specs.declared.Told.TheVariants.{Refused, Passed}
 use Rattle.checks.proofs.Exact.{accepted, holds_then, then, stops}
 use Rattle.checks.proofs.Rules.{must_no, must_yes}
 use Rattle.checks.specs.Sizes.{most64}
@@ -32,6 +30,7 @@ use Rattle.handle.specs.declared.Handle.{Handle}
 use Rattle.handle.specs.declared.Inspected.{Inspected}
 use Rattle.handle.specs.declared.Inspected.TheVariants as InspectedIs
 use Rattle.handle.proofs.Answers.{inspected_picture, inspected_refused, given_is}
+use Rattle.std.specs.Prelude.{Ok, Err}
 
 -- where the checks of all segments hold, those of each do
 module _ (v : Seen) (f : Format) (maxOutput : ℕ) where
@@ -50,7 +49,7 @@ module _ (v : Seen) (f : Format) (maxOutput : ℕ) where
 
 -- an inspection that gives a handle has found an accepted picture, and the handle is that of the page
 module _ (v : Seen) (page : ℕ) (l : Limits) (u : ℕ) (h : Handle) (w : ℕ) (gave : inspected_of v page l u ≡ InspectedIs.Picture h w) where
-  passed : (run (inspect_checks v page l) u ≡ Passed w) × (h ≡ handle_of v page)
+  passed : (run (inspect_checks v page l) u ≡ Ok w) × (h ≡ handle_of v page)
   passed = inspected_picture (run (inspect_checks v page l) u) (handle_of v page) h w gave
 
   after_limits_lem : Holds (front_checks v page l) × Holds (segments_checks v (format_seen v page) l.max_output)
@@ -86,11 +85,11 @@ checked v l h e =
 
 -- the buffers, then the charge
 module _ (h : Handle) (output scratch left : ℕ) where
-  pub output_short : output < h.format.output → Refused output_too_small left ≡ run (show_checks h output scratch) left
+  pub output_short : output < h.format.output → Err (leaving output_too_small left) ≡ run (show_checks h output scratch) left
   output_short s = must_no _ _ _ _ (lt-leb _ _ s)
 
   module _ (o : h.format.output ≤ output) where
-    pub scratch_short : scratch < h.scratch → Refused output_too_small left ≡ run (show_checks h output scratch) left
+    pub scratch_short : scratch < h.scratch → Err (leaving output_too_small left) ≡ run (show_checks h output scratch) left
     scratch_short s = must_yes _ _ _ _ (le-leb _ _ o) (must_no _ _ _ _ (lt-leb _ _ s))
 
     module _ (s : h.scratch ≤ scratch) {t : Told} (et : t ≡ run (pay h.work ∷ []) left) where
@@ -101,7 +100,7 @@ pub ruleset showing = (output_short, scratch_short, charged, rules)
 
 -- the handle before them
 module _ (v : Seen) (l : Limits) (h : Handle) {b : Bool} (eb : b ≡ is_handle v l h) where
-  pub forged : (output scratch left : ℕ) → b ≡ false → Refused invalid left ≡ run (decode_checks v l h output scratch) left
+  pub forged : (output scratch left : ℕ) → b ≡ false → Err (leaving invalid left) ≡ run (decode_checks v l h output scratch) left
   forged output scratch left q = must_no _ invalid left _ (sym eb ∙ q)
 
   module _ (is : b ≡ true) where
@@ -137,13 +136,13 @@ module _ (v : Seen) (page : ℕ) (l : Limits) (left : ℕ) {r : Inspected} (er :
           ∙ ap (λ (g : Handle). run (show_checks g output scratch) u) given_handle
           ∙ sym (then (inspect_checks v page l) (show_checks (handle_of v page) output scratch) left u told)
 
-      pub not_shown : (e w : ℕ) → t ≡ Refused e w → InspectedIs.Refused e w ≡ both_of v page l output scratch left
+      pub not_shown : (e w : ℕ) → t ≡ Err (leaving e w) → InspectedIs.Refused e w ≡ both_of v page l output scratch left
       not_shown e w z = rw (← both, z)
 
-      pub shown_too : (w : ℕ) → t ≡ Passed w → InspectedIs.Picture h w ≡ both_of v page l output scratch left
+      pub shown_too : (w : ℕ) → t ≡ Ok w → InspectedIs.Picture h w ≡ both_of v page l output scratch left
       shown_too w z = ap (λ (g : Handle). InspectedIs.Picture g w) given_handle ∙ rw (← both, z)
 
-    module _ (t : Told) (w : ℕ) (z : t ≡ Passed w) (x old : List ℕ) where
+    module _ (t : Told) (w : ℕ) (z : t ≡ Ok w) (x old : List ℕ) where
       pub picture_there : x ≡ output_decoded v h t old → x ≡ picture_over v (handle_of v page) old
       picture_there y = (rw z at y) ∙ ap (λ (g : Handle). picture_over v g old) given_handle
 
@@ -151,7 +150,7 @@ module _ (v : Seen) (page : ℕ) (l : Limits) (left : ℕ) {r : Inspected} (er :
       scratch_there y = (rw z at y) ∙ ap (λ (g : Handle). cleared_over g old) given_handle
 
 -- a refusal leaves a buffer as it was
-pub left_standing : (t : Told) (e w : ℕ) (x new old : List ℕ) → t ≡ Refused e w → x ≡ on_pass t new old → x ≡ old
+pub left_standing : (t : Told) (e w : ℕ) (x new old : List ℕ) → t ≡ Err (leaving e w) → x ≡ on_pass t new old → x ≡ old
 left_standing t e w x new old z y = rw z at y
 
 pub ruleset reading = (not_inspected, inspected_showable, not_shown, shown_too, picture_there, scratch_there, left_standing, rules)

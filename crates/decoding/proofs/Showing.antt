@@ -8,7 +8,6 @@ use borrow.Author.Rules.{rules}
 use Rattle.lists.specs.Lists.{overlay}
 use Rattle.lists.proofs.Overlay.{overlay_length}
 use Rattle.checks.proofs.Exact.{fine}
-use Rattle.checks.specs.declared.Verdict.TheVariants as VerdictIs
 use Rattle.seen.specs.Seen.{seen}
 use Rattle.packets.specs.Packets.{part}
 use Rattle.picture.specs.declared.Format.{Format}
@@ -24,6 +23,8 @@ use Rattle.showing.specs.Shown.{shown, planes_in, shown_by}
 use Rattle.showing.specs.Inner.{SegmentShowable}
 use Rattle.showing.proofs.Showing.{planes_length, stored_part, shown_part, showable}
 use Rattle.decoding.specs.Inner.{PictureAccepted}
+use Rattle.checks.specs.Numbers.{no_refusal}
+use Rattle.std.specs.Prelude.{Err}
 
 -- one segment of an accepted picture
 module _
@@ -37,7 +38,7 @@ module _
   pub never_refused : (e : ℕ) → r ≡ PlaceIs.Refused e → ⊥
   never_refused e q =
       let a = not_located (seen file map) f k er e q in
-      let b : VerdictIs.Refused e ≡ VerdictIs.Fine = sym a ∙ (fine (place_checks (seen file map) f k)).1 (ok.segment k h).place in
+      let b : Err e ≡ no_refusal = sym a ∙ (fine (place_checks (seen file map) f k)).1 (ok.segment k h).place in
       let z : ◌≡◌ {A = ℕ} 0 1 = cc in
       omega arith
 

@@ -1,9 +1,8 @@
 -- Strict reading: the checks of decode, those of inspection and decode in one call, and what they leave in the lent buffers.
 use Rattle.std.specs.Prelude.{ℕ, List, [], ◌∷◌, ◌++◌, leb, length, replicate}
 use Rattle.lists.specs.Lists.{overlay}
-use Rattle.checks.specs.Numbers.{invalid, output_too_small}
+use Rattle.checks.specs.Numbers.{invalid, output_too_small, Told}
 use Rattle.checks.specs.Checks.{Check, must, pay, run, on_pass}
-use Rattle.checks.specs.declared.Told.{Told}
 use Rattle.seen.specs.Seen.{Seen}
 use Rattle.header.specs.declared.Limits.{Limits}
 use Rattle.picture.specs.declared.Format.{Format}

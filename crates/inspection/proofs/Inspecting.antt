@@ -8,10 +8,6 @@ use native.Mathlib.Nat.{sub-zero}
 use native.Mathlib.Numerals.{add-one}
 use borrow.Author.Rules.{rules}
 use Rattle.checks.specs.Checks.{Check, run, verdict, cost}
-use Rattle.checks.specs.declared.Told.{Told}
-use Rattle.checks.specs.declared.Told.TheVariants.{Refused, Passed}
-use Rattle.checks.specs.declared.Verdict.{Verdict}
-use Rattle.checks.specs.declared.Verdict.TheVariants as VerdictIs
 use Rattle.checks.specs.Exact.{Exact}
 use Rattle.checks.proofs.Exact.{accepted, then, stops}
 use Rattle.checks.proofs.Rules.{ended_free, onward_free}
@@ -36,6 +32,8 @@ use Rattle.inspection.specs.Inner.{inspected_format, picture_checks, inspected_p
 use Rattle.handle.specs.declared.Handle.{Handle}
 use Rattle.handle.specs.declared.Inspected.{Inspected}
 use Rattle.handle.specs.declared.Inspected.TheVariants as InspectedIs
+use Rattle.checks.specs.Numbers.{Verdict, Told, no_refusal, leaving}
+use Rattle.std.specs.Prelude.{Ok, Err}
 
 -- k segments are checked: what is left of the list decides as the whole does
 pub record Checking (v : Seen) (f : Format) (maxOutput left k rest : ℕ) : Type 0 where
@@ -58,14 +56,14 @@ module _ (v : Seen) (f : Format) (maxOutput left k rest : ℕ) (s : Checking v f
         s.same ∙ rw (e, add-one k)
 
     module _ {r : Told} (er : r ≡ run (segment_checks v f maxOutput k) rest) where
-      pub segment_refused : (e u : ℕ) → r ≡ Refused e u → Refused e u ≡ run (segments_checks v f maxOutput) left
+      pub segment_refused : (e u : ℕ) → r ≡ Err (leaving e u) → Err (leaving e u) ≡ run (segments_checks v f maxOutput) left
       segment_refused e u q = sym (opened ∙ stops (segment_checks v f maxOutput k) after rest e u (sym er ∙ q))
 
-      pub checking_more : (u : ℕ) → r ≡ Passed u → Checking v f maxOutput left (k + 1) u
+      pub checking_more : (u : ℕ) → r ≡ Ok u → Checking v f maxOutput left (k + 1) u
       unfolding after
       checking_more u q = record { within = omega arith; same = opened ∙ then (segment_checks v f maxOutput k) after rest u (sym er ∙ q) }
 
-  pub checking_all : f.segments ≤ k → Passed rest ≡ run (segments_checks v f maxOutput) left
+  pub checking_all : f.segments ≤ k → Ok rest ≡ run (segments_checks v f maxOutput) left
   unfolding run each_segment
   checking_all h =
       let e : f.segments - k ≡ 0 = omega arith in
@@ -82,10 +80,10 @@ pub ruleset making = (handle_made, rules)
 
 -- what the segments took is the sum of their fees
 module _ (v : Seen) (f : Format) (maxOutput left : ℕ) {r : Told} (er : r ≡ run (segments_checks v f maxOutput) left) where
-  pub segments_refused : (page e u : ℕ) → r ≡ Refused e u → InspectedIs.Refused e u ≡ inspected_format v f page maxOutput left
+  pub segments_refused : (page e u : ℕ) → r ≡ Err (leaving e u) → InspectedIs.Refused e u ≡ inspected_format v f page maxOutput left
   segments_refused page e u q = rw (← er, q)
 
-  module _ (u : ℕ) (q : r ≡ Passed u) where
+  module _ (u : ℕ) (q : r ≡ Ok u) where
     exact : Exact (segments_checks v f maxOutput) left u
     exact = (accepted (segments_checks v f maxOutput) left u).0 (sym er ∙ q)
 
@@ -123,11 +121,11 @@ pub ruleset pages = (front_refused, format_readable, format_inspected, rules)
 
 -- the limits before it
 module _ (v : Seen) (page : ℕ) (l : Limits) (left : ℕ) {r : Verdict} (er : r ≡ verdict (limit_checks v.size page l)) where
-  pub limits_refused : (e : ℕ) → r ≡ VerdictIs.Refused e → InspectedIs.Refused e left ≡ inspected_of v page l left
+  pub limits_refused : (e : ℕ) → r ≡ Err e → InspectedIs.Refused e left ≡ inspected_of v page l left
   unfolding inspect_checks picture_checks
   limits_refused e q = rw (← ended_free (limit_checks v.size page l) (picture_checks v page l) left e (limits_free v.size page l) er q)
 
-  pub limits_passed : {i : Inspected} → r ≡ VerdictIs.Fine → i ≡ inspected_page v page l left → i ≡ inspected_of v page l left
+  pub limits_passed : {i : Inspected} → r ≡ no_refusal → i ≡ inspected_page v page l left → i ≡ inspected_of v page l left
   unfolding inspect_checks picture_checks
   limits_passed q e = rw (← onward_free (limit_checks v.size page l) (picture_checks v page l) left (limits_free v.size page l) er q refl) e
 

@@ -12,8 +12,6 @@ use Rattle.lists.specs.Lists.{overlay}
 use Rattle.lists.proofs.Overlay.{length_span}
 use Rattle.head.specs.Heads.{channels_of}
 use Rattle.checks.specs.Checks.{Holds}
-use Rattle.checks.specs.declared.Told.{Told}
-use Rattle.checks.specs.declared.Told.TheVariants as ToldIs
 use Rattle.seen.specs.Seen.{Seen}
 use Rattle.header.specs.declared.Limits.{Limits}
 use Rattle.front.specs.Front.{found, format_seen}
@@ -31,6 +29,8 @@ use Rattle.admission.specs.declared.Room.{Room}
 use Rattle.admission.proofs.Admitted.{admitted_format_lem, admitted_readable, admitted_room}
 use Rattle.patchy.specs.declared.Sizes.{Sizes}
 use Rattle.patchy.specs.declared.Reading.TheVariants.{Refused, Picture}
+use Rattle.checks.specs.Numbers.{Told, leaving}
+use Rattle.std.specs.Prelude.{Ok, Err}
 
 -- the sizes, of channels that a call told
 pub sizes_told : (f : Format) (channels : ℕ) → channels ≡ channels_of f.mono
@@ -84,13 +84,13 @@ tail_cleared v f old marked cleared room e z =
 pub ruleset showings = (scratch_zeroed, held_part, tail_cleared, rules)
 
 -- what a reading's answer tells of its checks
-pub picture_told : (t : Told) (f : Format) (s : Sizes) (w : ℕ) → reading_from (found t f) ≡ Picture s w → (t ≡ ToldIs.Passed w) × (s ≡ sizes_of f)
-picture_told (ToldIs.Passed x) f s w q = (cc, cc)
-picture_told (ToldIs.Refused n x) f s w q = let z : ◌≡◌ {A = ℕ} 0 1 = cc in absurd (omega arith)
+pub picture_told : (t : Told) (f : Format) (s : Sizes) (w : ℕ) → reading_from (found t f) ≡ Picture s w → (t ≡ Ok w) × (s ≡ sizes_of f)
+picture_told (Ok x) f s w q = (cc, cc)
+picture_told (Err r) f s w q = let z : ◌≡◌ {A = ℕ} 0 1 = cc in absurd (omega arith)
 
-pub refusal_told : (t : Told) (f : Format) (e w : ℕ) → reading_from (found t f) ≡ Refused e w → t ≡ ToldIs.Refused e w
-refusal_told (ToldIs.Passed x) f e w q = let z : ◌≡◌ {A = ℕ} 0 1 = cc in absurd (omega arith)
-refusal_told (ToldIs.Refused n x) f e w q = cc
+pub refusal_told : (t : Told) (f : Format) (e w : ℕ) → reading_from (found t f) ≡ Refused e w → t ≡ Err (leaving e w)
+refusal_told (Ok x) f e w q = let z : ◌≡◌ {A = ℕ} 0 1 = cc in absurd (omega arith)
+refusal_told (Err r) f e w q = cc
 
 module _ (v : Seen) (map page : ℕ) (l : Limits) (room : Room) (left : ℕ) {r : Found} (er : r ≡ admitted v map page l room left) where
   -- the answer

@@ -5,10 +5,8 @@ use mathlib.Core.List.{List, []}
 use lib.ListN.{length}
 use borrow.Author.Rules.{rules}
 use borrow.Author.Tests.{eq-eqb, ne_eqb}
-use Rattle.checks.specs.Numbers.{invalid, told_number, told_left}
+use Rattle.checks.specs.Numbers.{invalid, told_number, told_left, Told, leaving}
 use Rattle.checks.specs.Checks.{run, on_pass}
-use Rattle.checks.specs.declared.Told.{Told}
-use Rattle.checks.specs.declared.Told.TheVariants as ToldIs
 use Rattle.checks.proofs.Rules.{must_no, must_yes}
 use Rattle.seen.specs.Seen.{seen}
 use Rattle.header.specs.declared.Limits.{Limits}
@@ -20,6 +18,7 @@ use Rattle.handle.specs.declared.Inspected.{Inspected}
 use Rattle.handle.specs.declared.Inspected.TheVariants as InspectedIs
 use Rattle.plain_image.specs.Image.{refused, info_of, image_checks, image_decode_told, ImageInspected, ImageDecoded}
 use Rattle.image_info.specs.declared.Info.{Info}
+use Rattle.std.specs.Prelude.{Ok, Err}
 
 module _ (file : List ℕ) (page : ℕ) (l : Limits) (units : ℕ) {r : Inspected} (er : r ≡ inspected_of (seen file []) page l units) where
   pub none_found : (e u : ℕ) → r ≡ InspectedIs.Refused e u → (i : Info) → i ≡ refused e → ImageInspected file page l units i u
@@ -55,7 +54,7 @@ module _ (file : List ℕ) (i : Info) (output scratch : List ℕ) (units : ℕ) 
 
   pub carries_refusal : (i.number ≡ 0 → ⊥) → Done invalid units output scratch
   unfolding image_checks
-  carries_refusal h = as_told (ToldIs.Refused invalid units) (must_no _ _ _ _ (ne_eqb _ _ h)) output scratch refl refl
+  carries_refusal h = as_told (Err (leaving invalid units)) (must_no _ _ _ _ (ne_eqb _ _ h)) output scratch refl refl
 
   module _
       (z : i.number ≡ 0)
@@ -67,10 +66,10 @@ module _ (file : List ℕ) (i : Info) (output scratch : List ℕ) (units : ℕ) 
       told q = must_yes _ _ _ _ (eq-eqb _ _ z) (sym q ∙ et)
 
       module _ (x y : List ℕ) (ex : x ≡ shown t) (ey : y ≡ cleared t) where
-        pub not_decoded : (e u : ℕ) → t ≡ ToldIs.Refused e u → Done e u x y
-        not_decoded e u q = as_told (ToldIs.Refused e u) (told q) x y (rw q at ex) (rw q at ey)
+        pub not_decoded : (e u : ℕ) → t ≡ Err (leaving e u) → Done e u x y
+        not_decoded e u q = as_told (Err (leaving e u)) (told q) x y (rw q at ex) (rw q at ey)
 
-        pub decoded : (u : ℕ) → t ≡ ToldIs.Passed u → Done 0 u x y
-        decoded u q = as_told (ToldIs.Passed u) (told q) x y (rw q at ex) (rw q at ey)
+        pub decoded : (u : ℕ) → t ≡ Ok u → Done 0 u x y
+        decoded u q = as_told (Ok u) (told q) x y (rw q at ex) (rw q at ey)
 
 pub ruleset decodes = (carries_refusal, not_decoded, decoded, rules)

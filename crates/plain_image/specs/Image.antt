@@ -1,9 +1,8 @@
 -- The named forms: what an image carries of an inspection, and what each call leaves of its budget and its buffers.
 use Rattle.std.specs.Prelude.{ℕ, ◌≡◌, false, List, [], ◌∷◌, eqb, length}
 use Rattle.head.specs.Heads.{colour_head}
-use Rattle.checks.specs.Numbers.{invalid, told_number, told_left}
+use Rattle.checks.specs.Numbers.{invalid, told_number, told_left, Told}
 use Rattle.checks.specs.Checks.{Check, must, run, on_pass}
-use Rattle.checks.specs.declared.Told.{Told}
 use Rattle.seen.specs.Seen.{Seen, seen}
 use Rattle.header.specs.declared.Limits.{Limits}
 use Rattle.picture.specs.declared.Format.{Format}

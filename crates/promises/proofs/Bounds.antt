@@ -8,7 +8,6 @@ use native.Mathlib.Nat.{mul-le-mul_left, mul-le-mul_right, zero-div}
 use borrow.Author.Tests.{eqb-true, eqb-false}
 use Rattle.head.specs.Heads.{planes_of, bytes_of}
 use Rattle.checks.specs.Sizes.{within}
-use Rattle.checks.specs.declared.Size.TheVariants.{Fits}
 use Rattle.checks.proofs.Sizes.{fits_is}
 use Rattle.seen.specs.Seen.{Seen}
 use Rattle.header.specs.Header.{big_endian, first_of}
@@ -30,6 +29,7 @@ use Rattle.work_limit.specs.WorkLimit.{work_bound}
 use Rattle.handle.specs.declared.Handle.{Handle}
 use Rattle.promises.specs.Strict.{SegmentFine, PictureFine, inspection_charge, Inspects, Largest}
 use Rattle.promises.proofs.Strict.{page_valid}
+use Rattle.std.specs.Prelude.{Some}
 
 -- each directory up to the page has at most so many entries
 pub walk_bound : (v : Seen) (b : Bool) (maxTags page first : ℕ) → ((i : ℕ) → i ≤ page → entries_at v b (page_at v b i first) ≤ maxTags)
@@ -77,7 +77,7 @@ bound_covers v page l p =
     )
 
 -- so the work limit, where it answers, covers the charge
-pub limit_covers : (v : Seen) (page : ℕ) (l : Limits) (n : ℕ) → within (work_bound page l) ≡ Fits n → PictureFine v page l → inspection_charge v page ≤ n
+pub limit_covers : (v : Seen) (page : ℕ) (l : Limits) (n : ℕ) → within (work_bound page l) ≡ Some n → PictureFine v page l → inspection_charge v page ≤ n
 limit_covers v page l n e p = omega (arith, bound_covers v page l p, (fits_is (work_bound page l) n refl e).is)
 
 -- a picture's first segment has all rows of a block

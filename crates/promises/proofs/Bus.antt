@@ -7,7 +7,6 @@ use mathlib.Core.Bool.{true}
 use lib.ListN.{length}
 use Rattle.checks.specs.Checks.{cost}
 use Rattle.checks.specs.Exact.{RefusedAt}
-use Rattle.checks.specs.declared.Verdict.TheVariants.{Fine, Refused}
 use Rattle.checks.proofs.Exact.{refused_fine}
 use Rattle.checks.proofs.Refusals.{refused_free}
 use Rattle.receiver.specs.declared.Receiver.{Receiver}
@@ -19,13 +18,14 @@ use Rattle.promises.proofs.Since.{received_append, last_start, next_accepted, ca
 use Rattle.trace.proofs.Written.{nothing_written, all_written, cut_written, foreign_byte}
 use Rattle.face_receiver.specs.Reception.{receiver_of, receiver_words, lent_words, Replay}
 use Rattle.promises.specs.Bus.{Bus}
+use Rattle.std.specs.Prelude.{Err}
 
 no_charge : (m : Message) (s : Reception) → cost (message_checks m s) ≡ 0
 unfolding cost
 no_charge (start size) s = refl
 no_charge (block number bytes) s = refl
 
-refused_first : (m : Message) (s : Reception) (e : ℕ) → (answer_to m s ≡ Refused e) ↔ RefusedAt (message_checks m s) 0 e 0
+refused_first : (m : Message) (s : Reception) (e : ℕ) → (answer_to m s ≡ Err e) ↔ RefusedAt (message_checks m s) 0 e 0
 unfolding answer_to
 refused_first m s e = refused_free (message_checks m s) e (no_charge m s)
 

@@ -9,10 +9,8 @@ use native.Mathlib.Omega.{arith}
 use lib.Dec.{eqb}
 use borrow.Author.Tests.{eqb-true, eqb-false}
 use Rattle.lists.specs.Lists.{pick}
-use Rattle.checks.specs.Numbers.{truncated, not_arrived}
+use Rattle.checks.specs.Numbers.{truncated, not_arrived, Verdict, no_refusal}
 use Rattle.checks.specs.Checks.{verdict, Holds, cost, Never}
-use Rattle.checks.specs.declared.Verdict.{Verdict}
-use Rattle.checks.specs.declared.Verdict.TheVariants as VerdictIs
 use Rattle.checks.proofs.Exact.{refused_fine, fine, run_refused, never}
 use Rattle.checks.specs.Exact.{RefusedAt}
 use Rattle.checks.proofs.Refusals.{refused_free}
@@ -26,6 +24,7 @@ use Rattle.quality.specs.declared.Quality.{Quality}
 use Rattle.quality.specs.declared.Quality.TheVariants as QualityIs
 use Rattle.promises.specs.Strict.{Good}
 use Rattle.promises.proofs.Segments.{good_fine}
+use Rattle.std.specs.Prelude.{Ok, Err}
 
 -- the number of a place that is refused: 3 where its bytes are outside the file, else 2
 abbrev unplaced : Bool → ℕ
@@ -47,7 +46,7 @@ only_outside : (t : Bool) → unplaced t ≡ 3 → t ≡ true
 only_outside true e = refl
 only_outside false e = absurd (omega arith)
 
-same_number : (n e : ℕ) → VerdictIs.Refused n ≡ VerdictIs.Refused e → n ≡ e
+same_number : (n e : ℕ) → Err n ≡ Err e → n ≡ e
 same_number n e q = cc
 
 -- the four numbers by the verdicts on the place and on the packets
@@ -55,33 +54,33 @@ module _ (offset count : ℕ) where
   abbrev code : Verdict → Verdict → ℕ
   code place packets = code_is (judged place packets offset count)
 
-  is_good : (place packets : Verdict) → (code place packets ≡ 1) ↔ ((place ≡ VerdictIs.Fine) × (packets ≡ VerdictIs.Fine))
-  is_good VerdictIs.Fine VerdictIs.Fine = (λ e. (refl, refl), λ p. refl)
-  is_good VerdictIs.Fine (VerdictIs.Refused n) = (λ e. absurd (omega arith), λ p. absurd (refused_fine n p.1))
-  is_good (VerdictIs.Refused n) packets = (λ e. absurd (never_good (eqb n truncated) e), λ p. absurd (refused_fine n p.0))
+  is_good : (place packets : Verdict) → (code place packets ≡ 1) ↔ ((place ≡ no_refusal) × (packets ≡ no_refusal))
+  is_good (Ok x) (Ok x) = (λ e. (refl, refl), λ p. refl)
+  is_good (Ok x) (Err n) = (λ e. absurd (omega arith), λ p. absurd (refused_fine n p.1))
+  is_good (Err n) packets = (λ e. absurd (never_good (eqb n truncated) e), λ p. absurd (refused_fine n p.0))
 
   -- granted that a place is refused with no number but 1 and 8
-  is_missing : (place packets : Verdict) → ((n : ℕ) → place ≡ VerdictIs.Refused n → eqb n truncated ≡ false → n ≡ not_arrived) → (code place packets ≡ 2)
-      ↔ (place ≡ VerdictIs.Refused not_arrived)
-  is_missing VerdictIs.Fine VerdictIs.Fine only = (λ e. absurd (omega arith), λ q. absurd (refused_fine not_arrived (sym q)))
-  is_missing VerdictIs.Fine (VerdictIs.Refused n) only = (λ e. absurd (omega arith), λ q. absurd (refused_fine not_arrived (sym q)))
-  is_missing (VerdictIs.Refused n) packets only = (
-    λ e. ap VerdictIs.Refused (only n refl (only_missing (eqb n truncated) e)),
+  is_missing : (place packets : Verdict) → ((n : ℕ) → place ≡ Err n → eqb n truncated ≡ false → n ≡ not_arrived) → (code place packets ≡ 2)
+      ↔ (place ≡ Err not_arrived)
+  is_missing (Ok x) (Ok x) only = (λ e. absurd (omega arith), λ q. absurd (refused_fine not_arrived (sym q)))
+  is_missing (Ok x) (Err n) only = (λ e. absurd (omega arith), λ q. absurd (refused_fine not_arrived (sym q)))
+  is_missing (Err n) packets only = (
+    λ e. ap Err (only n refl (only_missing (eqb n truncated) e)),
     λ q. rw (same_number n not_arrived q),
   )
 
-  is_outside : (place packets : Verdict) → (code place packets ≡ 3) ↔ (place ≡ VerdictIs.Refused truncated)
-  is_outside VerdictIs.Fine VerdictIs.Fine = (λ e. absurd (omega arith), λ q. absurd (refused_fine truncated (sym q)))
-  is_outside VerdictIs.Fine (VerdictIs.Refused n) = (λ e. absurd (omega arith), λ q. absurd (refused_fine truncated (sym q)))
-  is_outside (VerdictIs.Refused n) packets = (
-    λ e. ap VerdictIs.Refused (eqb-true n truncated (only_outside (eqb n truncated) e)),
+  is_outside : (place packets : Verdict) → (code place packets ≡ 3) ↔ (place ≡ Err truncated)
+  is_outside (Ok x) (Ok x) = (λ e. absurd (omega arith), λ q. absurd (refused_fine truncated (sym q)))
+  is_outside (Ok x) (Err n) = (λ e. absurd (omega arith), λ q. absurd (refused_fine truncated (sym q)))
+  is_outside (Err n) packets = (
+    λ e. ap Err (eqb-true n truncated (only_outside (eqb n truncated) e)),
     λ q. rw (same_number n truncated q),
   )
 
-  is_rejected : (place packets : Verdict) → (code place packets ≡ 4) ↔ ((place ≡ VerdictIs.Fine) × (packets ≡ VerdictIs.Fine → ⊥))
-  is_rejected VerdictIs.Fine VerdictIs.Fine = (λ e. absurd (omega arith), λ p. absurd (p.1 refl))
-  is_rejected VerdictIs.Fine (VerdictIs.Refused n) = (λ e. (refl, refused_fine n), λ p. refl)
-  is_rejected (VerdictIs.Refused n) packets = (λ e. absurd (never_rejected (eqb n truncated) e), λ p. absurd (refused_fine n p.0))
+  is_rejected : (place packets : Verdict) → (code place packets ≡ 4) ↔ ((place ≡ no_refusal) × (packets ≡ no_refusal → ⊥))
+  is_rejected (Ok x) (Ok x) = (λ e. absurd (omega arith), λ p. absurd (p.1 refl))
+  is_rejected (Ok x) (Err n) = (λ e. (refl, refused_fine n), λ p. refl)
+  is_rejected (Err n) packets = (λ e. absurd (never_rejected (eqb n truncated) e), λ p. absurd (refused_fine n p.0))
 
 module _ (v : Seen) (f : Format) (k : ℕ) where
   place_free : cost (place_checks v f k) ≡ 0
@@ -92,7 +91,7 @@ module _ (v : Seen) (f : Format) (k : ℕ) where
   unfolding place_checks Never
   never_other n a b = (λ z. absurd (a z), (λ z. absurd (b z), (λ z. absurd (a z), (λ z. absurd (b z), (λ z. absurd (a z), (λ z. absurd (b z), tt))))))
 
-  not_outside : (n : ℕ) → verdict (place_checks v f k) ≡ VerdictIs.Refused n → eqb n truncated ≡ false → n ≡ not_arrived
+  not_outside : (n : ℕ) → verdict (place_checks v f k) ≡ Err n → eqb n truncated ≡ false → n ≡ not_arrived
   not_outside n q other = by (eqb n not_arrived) refl
     where
       by : (t : Bool) → eqb n not_arrived ≡ t → n ≡ not_arrived
@@ -109,7 +108,7 @@ module _ (v : Seen) (f : Format) (k : ℕ) where
       (Iff.trans (Iff.and (fine (place_checks v f k)) (fine (stored_checks v f k))) (good_fine v f k))
 
   -- 2: of its offset, its count and its stored bytes, the first that can't be read lies in the file but did not come
-  pub missing_told : (code_of v f k ≡ 2) ↔ (verdict (place_checks v f k) ≡ VerdictIs.Refused not_arrived)
+  pub missing_told : (code_of v f k ≡ 2) ↔ (verdict (place_checks v f k) ≡ Err not_arrived)
   unfolding quality_is
   missing_told = is_missing (offset_of v f k) (count_of v f k) (verdict (place_checks v f k)) (verdict (stored_checks v f k)) not_outside
 
@@ -117,7 +116,7 @@ module _ (v : Seen) (f : Format) (k : ℕ) where
   code_missing = Iff.trans missing_told (refused_free (place_checks v f k) not_arrived place_free)
 
   -- 3: the first of these that can't be read lies outside the file
-  pub outside_told : (code_of v f k ≡ 3) ↔ (verdict (place_checks v f k) ≡ VerdictIs.Refused truncated)
+  pub outside_told : (code_of v f k ≡ 3) ↔ (verdict (place_checks v f k) ≡ Err truncated)
   unfolding quality_is
   outside_told = is_outside (offset_of v f k) (count_of v f k) (verdict (place_checks v f k)) (verdict (stored_checks v f k))
 

@@ -7,7 +7,6 @@ use lib.ListN.{length, get_or, length-replicate}
 use Rattle.lists.proofs.Overlay.{only_zeros, overlay_new, overlay_old, overlay_length}
 use Rattle.lists.proofs.Counters.{grouped_in}
 use Rattle.head.specs.Heads.{bytes_of}
-use Rattle.checks.specs.declared.Told.TheVariants as ToldIs
 use Rattle.seen.specs.Seen.{Seen}
 use Rattle.geometry.specs.Geometry.{pieces, segment_of}
 use Rattle.header.specs.declared.Limits.{Limits}
@@ -30,6 +29,7 @@ use Rattle.promises.proofs.Segments.{packets_fill}
 use Rattle.promises.proofs.Strict.{page_valid}
 use Rattle.promises.proofs.Handles.{decode_exact}
 use Rattle.promises.proofs.Reading.{read_exact}
+use Rattle.std.specs.Prelude.{Ok}
 
 -- the segment that has a pixel is one of the picture
 pub segment_below : (f : Format) → Valid f → (x y : ℕ) → x < f.width → y < f.height
@@ -77,7 +77,7 @@ module _ (v : Seen) (page : ℕ) (l : Limits) (fine : PictureFine v page l) (out
       }
 
 -- so that is what decode leaves where it passes
-pub decode_shows : (c : StrictCall) (h : Handle) (w : ℕ) → decode_answer c h ≡ ToldIs.Passed w
+pub decode_shows : (c : StrictCall) (h : Handle) (w : ℕ) → decode_answer c h ≡ Ok w
     → Shows (whole_view c) h c.output c.scratch (decode_output c h) (decode_scratch c h)
 decode_shows c h w passed =
     let v = whole_view c in

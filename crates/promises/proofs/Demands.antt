@@ -5,8 +5,6 @@ use mathlib.Core.Logic.Iff
 use mathlib.Core.Logic.{◌⊎◌, inl, inr}
 use lib.ListN.{length}
 use Rattle.checks.specs.Checks.{run}
-use Rattle.checks.specs.declared.Told.{Told}
-use Rattle.checks.specs.declared.Told.TheVariants as ToldIs
 use Rattle.checks.proofs.Refusals.{refused}
 use Rattle.handle.specs.declared.Handle.{Handle}
 use Rattle.handle.specs.declared.Inspected.{Inspected}
@@ -33,6 +31,8 @@ use Rattle.promises.proofs.Decoded.{decode_shows, read_shows}
 use Rattle.promises.proofs.Patchy.{reading_exact, reading_number_lem, reading_numbered, reading_refused, refused_leaves}
 use Rattle.promises.proofs.Unseen.{lost_bytes_have_no_influence}
 use Rattle.promises.proofs.Marks.{quality_good, good_shows, others_blank, good_never_blank}
+use Rattle.checks.specs.Numbers.{Told, leaving}
+use Rattle.std.specs.Prelude.{Ok, Err}
 
 -- an answer is a picture or a refusal
 reading_cases : (c : Call) (r : Reading) → patchy.answer c ≡ r → ((s : Sizes) × (w : ℕ) × Answered c s w)
@@ -48,14 +48,14 @@ module _ (c : StrictCall) where
   inspection_cases (InspectedIs.Refused e w) q = inr (e, w, (q, inspection_numbered c.file c.page c.limits c.units e w q))
 
   decode_cases : (h : Handle) (t : Told) → decode_answer c h ≡ t
-      → ((w : ℕ) × (decode_answer c h ≡ ToldIs.Passed w)) ⊎ ((e : ℕ) × (w : ℕ) × ((decode_answer c h ≡ ToldIs.Refused e w) × Numbered 7 e))
-  decode_cases h (ToldIs.Passed w) q = inl (w, q)
-  decode_cases h (ToldIs.Refused e w) q =
+      → ((w : ℕ) × (decode_answer c h ≡ Ok w)) ⊎ ((e : ℕ) × (w : ℕ) × ((decode_answer c h ≡ Err (leaving e w)) × Numbered 7 e))
+  decode_cases h (Ok w) q = inl (w, q)
+  decode_cases h (Err r) q =
       inr (e, w, (q, decode_numbered (whole_view c) c.limits h (length c.output) (length c.scratch) c.units e w q))
 
   -- what is refused of inspection and decode in one call is refused by their checks
   read_told : (e w : ℕ) → strict.answer c ≡ InspectedIs.Refused e w
-      → run (both_checks (whole_view c) c.page c.limits (length c.output) (length c.scratch)) c.units ≡ ToldIs.Refused e w
+      → run (both_checks (whole_view c) c.page c.limits (length c.output) (length c.scratch)) c.units ≡ Err (leaving e w)
   read_told e w q = inspected_refused _ (handle_of (whole_view c) c.page) e w q
 
   read_cases : (r : Inspected) → strict.answer c ≡ r

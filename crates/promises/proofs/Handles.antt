@@ -8,10 +8,8 @@ use mathlib.Core.Logic.{◌↔◌}
 use mathlib.Core.Bool.{Bool, true, false}
 use native.Mathlib.Omega.{arith}
 use borrow.Author.Tests.{leb-true, le-leb}
-use Rattle.checks.specs.Numbers.{invalid}
+use Rattle.checks.specs.Numbers.{invalid, leaving}
 use Rattle.checks.specs.Checks.{run, Holds, cost, Never}
-use Rattle.checks.specs.declared.Told.TheVariants.{Passed}
-use Rattle.checks.specs.declared.Told.TheVariants as ToldIs
 use Rattle.checks.specs.Exact.{Exact, RefusedAt}
 use Rattle.checks.proofs.Exact.{accepted, never}
 use Rattle.checks.proofs.Refusals.{refused}
@@ -28,6 +26,7 @@ use Rattle.handle.proofs.Handles.{same_self}
 use Rattle.handle.proofs.Answers.{given_is}
 use Rattle.promises.specs.Strict.{inspection_charge, Given, Decodes}
 use Rattle.promises.proofs.Strict.{inspection_exact}
+use Rattle.std.specs.Prelude.{Err}
 
 -- buffers that hold the picture
 pub show_fine : (h : Handle) (output scratch : ℕ) → Holds (show_checks h output scratch) ↔ ((h.format.output ≤ output) × (h.scratch ≤ scratch))
@@ -38,7 +37,7 @@ show_fine h output scratch = (
 )
 
 -- the buffers and the charge never answer 2
-pub shown_valid : (h : Handle) (output scratch u w : ℕ) → run (show_checks h output scratch) u ≡ ToldIs.Refused invalid w → ⊥
+pub shown_valid : (h : Handle) (output scratch u w : ℕ) → run (show_checks h output scratch) u ≡ Err (leaving invalid w) → ⊥
 unfolding Never
 shown_valid h output scratch u w =
     never invalid (show_checks h output scratch) u w (λ y. absurd (omega arith), (λ y. absurd (omega arith), (λ y. omega arith, tt)))
@@ -86,23 +85,23 @@ module _ (v : Seen) (l : Limits) where
     decode_exact = Iff.trans (accepted (decode_checks v l h output scratch) u w) decodes
 
     -- it refuses exactly with the number of the first check that fails
-    pub decode_refused : (e : ℕ) → (run (decode_checks v l h output scratch) u ≡ ToldIs.Refused e w) ↔ RefusedAt (decode_checks v l h output scratch) u e w
+    pub decode_refused : (e : ℕ) → (run (decode_checks v l h output scratch) u ≡ Err (leaving e w)) ↔ RefusedAt (decode_checks v l h output scratch) u e w
     decode_refused e = refused (decode_checks v l h output scratch) u e w
 
     -- so 2 is the answer exactly where the handle is not given, and nothing is taken
-    pub decode_invalid : (run (decode_checks v l h output scratch) u ≡ ToldIs.Refused invalid w) ↔ ((Given v l h → ⊥) × (w ≡ u))
+    pub decode_invalid : (run (decode_checks v l h output scratch) u ≡ Err (leaving invalid w)) ↔ ((Given v l h → ⊥) × (w ≡ u))
     decode_invalid = (
       λ q. by (is_handle v l h) refl q,
-      λ p. other (is_handle v l h) refl p.0 ∙ ap (λ (x : ℕ). ToldIs.Refused invalid x) (sym p.1),
+      λ p. other (is_handle v l h) refl p.0 ∙ ap (λ (x : ℕ). Err (leaving invalid x)) (sym p.1),
     )
       where
-        by : (t : Bool) → is_handle v l h ≡ t → run (decode_checks v l h output scratch) u ≡ ToldIs.Refused invalid w → (Given v l h → ⊥) × (w ≡ u)
+        by : (t : Bool) → is_handle v l h ≡ t → run (decode_checks v l h output scratch) u ≡ Err (leaving invalid w) → (Given v l h → ⊥) × (w ≡ u)
         by true t q = absurd (shown_valid h output scratch u w (must_yes _ _ _ _ t refl ∙ q))
         by false t q =
-            let p : ToldIs.Refused invalid u ≡ ToldIs.Refused invalid w = must_no _ _ _ _ t ∙ q in
+            let p : Err (leaving invalid u) ≡ Err (leaving invalid w) = must_no _ _ _ _ t ∙ q in
             (λ g. true_false ((handle_exact h).1 g) t, cc)
 
-        other : (t : Bool) → is_handle v l h ≡ t → (Given v l h → ⊥) → run (decode_checks v l h output scratch) u ≡ ToldIs.Refused invalid u
+        other : (t : Bool) → is_handle v l h ≡ t → (Given v l h → ⊥) → run (decode_checks v l h output scratch) u ≡ Err (leaving invalid u)
         other true t d = absurd (d ((handle_exact h).0 t))
         other false t d = sym (must_no _ _ _ _ t)
 

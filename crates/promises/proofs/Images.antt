@@ -8,9 +8,8 @@ use native.Mathlib.Omega.{arith}
 use lib.Dec.{eqb}
 use lib.ListN.{length}
 use borrow.Author.Tests.{eqb-true, eq-eqb}
-use Rattle.checks.specs.Numbers.{invalid}
+use Rattle.checks.specs.Numbers.{invalid, leaving}
 use Rattle.checks.specs.Checks.{run, Holds}
-use Rattle.checks.specs.declared.Told.TheVariants as ToldIs
 use Rattle.checks.proofs.Exact.{accepted}
 use Rattle.checks.proofs.Rules.{must_no, must_yes}
 use Rattle.seen.specs.Seen.{Seen, seen}
@@ -23,6 +22,7 @@ use Rattle.plain_image.specs.Image.{no_limits, no_handle, refused, info_of, imag
 use Rattle.image_info.specs.declared.Info.{Info}
 use Rattle.promises.specs.Strict.{Decodes}
 use Rattle.promises.proofs.Handles.{handle_exact, decode_exact}
+use Rattle.std.specs.Prelude.{Ok, Err}
 
 -- no page is below a limit of 0 directories, so what a refusal leaves is no handle
 none_given : (v : Seen) → is_handle v no_limits no_handle ≡ false
@@ -43,7 +43,7 @@ module _ (file output scratch : List ℕ) (units : ℕ) where
 
   -- decode of an image succeeds, and leaves so many units, exactly if it carries no refusal and decode of its handle does; this is so of
   -- whatever an image may carry
-  pub image_exact : (i : Info) (w : ℕ) → (image_decode_told file i output scratch units ≡ ToldIs.Passed w)
+  pub image_exact : (i : Info) (w : ℕ) → (image_decode_told file i output scratch units ≡ Ok w)
       ↔ ((i.number ≡ 0) × Decodes (seen file []) i.limits i.handle (length output) (length scratch) units w)
   unfolding image_checks Holds
   image_exact i w =
@@ -55,11 +55,11 @@ module _ (file output scratch : List ℕ) (units : ℕ) where
         λ p. by_handle i p.0 ∙ exact.1 p.1,
       )
 
-  carried_refusal : (e : ℕ) → image_decode_told file (refused e) output scratch units ≡ ToldIs.Refused invalid units
+  carried_refusal : (e : ℕ) → image_decode_told file (refused e) output scratch units ≡ Err (leaving invalid units)
   unfolding image_checks
   carried_refusal e = by (eqb e 0) refl
     where
-      by : (t : Bool) → eqb e 0 ≡ t → image_decode_told file (refused e) output scratch units ≡ ToldIs.Refused invalid units
+      by : (t : Bool) → eqb e 0 ≡ t → image_decode_told file (refused e) output scratch units ≡ Err (leaving invalid units)
       by true t = by_handle (refused e) (eqb-true e 0 t) ∙ sym (must_no _ _ _ _ (none_given (seen file [])))
       by false t = sym (must_no _ _ _ _ t)
 
@@ -72,5 +72,5 @@ module _ (file output scratch : List ℕ) (units : ℕ) where
 
     -- after a refusal, whatever its number, decode answers 2 and takes nothing
     pub image_refused : (e : ℕ) → inspected_of (seen file []) page l u ≡ InspectedIs.Refused e w
-        → image_decode_told file (info_of l (inspected_of (seen file []) page l u)) output scratch units ≡ ToldIs.Refused invalid units
+        → image_decode_told file (info_of l (inspected_of (seen file []) page l u)) output scratch units ≡ Err (leaving invalid units)
     image_refused e q = rw q (carried_refusal e)

@@ -8,10 +8,8 @@ use native.Mathlib.Nat.{mul-le-mul_right}
 use lib.Dec.{eqb}
 use lib.ListN.{length}
 use Rattle.lists.specs.Lists.{pick}
-use Rattle.checks.specs.Numbers.{truncated}
+use Rattle.checks.specs.Numbers.{truncated, Verdict, no_refusal}
 use Rattle.checks.specs.Checks.{verdict}
-use Rattle.checks.specs.declared.Verdict.{Verdict}
-use Rattle.checks.specs.declared.Verdict.TheVariants as VerdictIs
 use Rattle.checks.proofs.Exact.{fine}
 use Rattle.seen.specs.Seen.{Seen}
 use Rattle.header.specs.Header.{big_endian, first_of}
@@ -31,6 +29,7 @@ use Rattle.promises.proofs.Segments.{place_fine}
 use Rattle.promises.proofs.Strict.{page_valid}
 use Rattle.promises.proofs.Bounds.{walk_bound, few_segments, scratch_largest}
 use Rattle.promises.proofs.Upstream.{output_small}
+use Rattle.std.specs.Prelude.{Ok, Err}
 
 -- a segment is charged 1 or its fee, and its stored bytes then lie in the file
 module _ (v : Seen) (f : Format) (maxInput maxOutput : ℕ) (small : v.size ≤ maxInput) (largest : Largest f (scratch_of f))
@@ -38,7 +37,7 @@ module _ (v : Seen) (f : Format) (maxInput maxOutput : ℕ) (small : v.size ≤ 
   abbrev most : ℕ
   most = maxInput + 2 * maxOutput + 1
 
-  placed_fee : (k : ℕ) → k < f.segments → verdict (place_checks v f k) ≡ VerdictIs.Fine → fee_of v f k ≤ most
+  placed_fee : (k : ℕ) → k < f.segments → verdict (place_checks v f k) ≡ no_refusal → fee_of v f k ≤ most
   placed_fee k h e =
       let t = ((place_fine v f k).0 ((fine (place_checks v f k)).0 e)).1.1 in
       omega (arith, t.in_file, largest.none_more k h)
@@ -51,11 +50,11 @@ module _ (v : Seen) (f : Format) (maxInput maxOutput : ℕ) (small : v.size ≤ 
       lost true = omega arith
       lost false = omega arith
 
-      by : (place packets : Verdict) → (place ≡ VerdictIs.Fine → fee_of v f k ≤ maxInput + 2 * maxOutput + 1)
+      by : (place packets : Verdict) → (place ≡ no_refusal → fee_of v f k ≤ maxInput + 2 * maxOutput + 1)
           → charge_is (judged place packets (offset_of v f k) (count_of v f k)) (fee_of v f k) ≤ maxInput + 2 * maxOutput + 1
-      by VerdictIs.Fine VerdictIs.Fine fee = fee refl
-      by VerdictIs.Fine (VerdictIs.Refused n) fee = fee refl
-      by (VerdictIs.Refused n) packets fee = lost (eqb n truncated)
+      by (Ok x) (Ok x) fee = fee refl
+      by (Ok x) (Err n) fee = fee refl
+      by (Err n) packets fee = lost (eqb n truncated)
 
   segments_most : (n k : ℕ) → k + n ≤ f.segments → charges_of v f k n ≤ n * most
   unfolding charges_of

@@ -7,10 +7,8 @@ use mathlib.Core.Bool.{Bool, true, false}
 use native.Mathlib.Omega.{arith}
 use lib.Dec.{ltb, leb}
 use borrow.Author.Tests.{ltb-true, ltb-false, leb-true, leb-false}
-use Rattle.checks.specs.Numbers.{invalid, output_too_small, budget, told_number}
+use Rattle.checks.specs.Numbers.{invalid, output_too_small, budget, told_number, Told, leaving}
 use Rattle.checks.specs.Checks.{Check, run, Never}
-use Rattle.checks.specs.declared.Told.{Told}
-use Rattle.checks.specs.declared.Told.TheVariants as ToldIs
 use Rattle.checks.proofs.Exact.{never, never_both}
 use Rattle.seen.specs.Seen.{Seen, seen}
 use Rattle.seen.proofs.Alike.{whole_came}
@@ -22,29 +20,30 @@ use Rattle.decoding.specs.Strict.{show_checks, decode_checks, both_checks, both_
 use Rattle.handle.specs.declared.Handle.{Handle}
 use Rattle.handle.specs.declared.Inspected.TheVariants.{Refused, Picture}
 use Rattle.promises.proofs.Strict.{told_refused, never_inspect}
+use Rattle.std.specs.Prelude.{Ok, Err}
 
 -- checks of which none gives 0 are answered with 0 exactly where they all pass
-pub told_number_lem : (cs : List Check) (u : ℕ) → Never 0 cs → (told_number (run cs u) ≡ 0) ↔ ((w : ℕ) × (run cs u ≡ ToldIs.Passed w))
+pub told_number_lem : (cs : List Check) (u : ℕ) → Never 0 cs → (told_number (run cs u) ≡ 0) ↔ ((w : ℕ) × (run cs u ≡ Ok w))
 told_number_lem cs u no_zero = (λ z. by (run cs u) refl z, λ (w, e). rw e)
   where
-    by : (t : Told) → run cs u ≡ t → told_number t ≡ 0 → (w : ℕ) × (run cs u ≡ ToldIs.Passed w)
-    by (ToldIs.Passed w) e z = (w, e)
-    by (ToldIs.Refused n w) e z = absurd (never 0 cs u w no_zero (e ∙ ap (λ (x : ℕ). ToldIs.Refused x w) z))
+    by : (t : Told) → run cs u ≡ t → told_number t ≡ 0 → (w : ℕ) × (run cs u ≡ Ok w)
+    by (Ok w) e z = (w, e)
+    by (Err r) e z = absurd (never 0 cs u r.left no_zero (e ∙ ap (λ (x : ℕ). Err (leaving x r.left)) z))
 
 -- the same where a handle stands beside them
 picture_number : (cs : List Check) (u : ℕ) (h : Handle) → Never 0 cs → (inspected_number (inspected (run cs u) h) ≡ 0)
     ↔ ((g : Handle) × (w : ℕ) × (inspected (run cs u) h ≡ Picture g w))
 picture_number cs u h no_zero = (λ z. given ((told_number_lem cs u no_zero).0 (same (run cs u) ∙ z)), λ (g, w, e). rw e)
   where
-    given : ((w : ℕ) × (run cs u ≡ ToldIs.Passed w)) → (g : Handle) × (w : ℕ) × (inspected (run cs u) h ≡ Picture g w)
+    given : ((w : ℕ) × (run cs u ≡ Ok w)) → (g : Handle) × (w : ℕ) × (inspected (run cs u) h ≡ Picture g w)
     given (w, e) = (h, w, rw e)
 
     same : (t : Told) → told_number t ≡ inspected_number (inspected t h)
-    same (ToldIs.Passed w) = refl
-    same (ToldIs.Refused n w) = refl
+    same (Ok w) = refl
+    same (Err r) = refl
 
 -- a refusal has a number that some check gives: where none gives a number outside of 1 to `most`, it is one of these
-pub told_numbered : (most : ℕ) (cs : List Check) → ((n : ℕ) → ((0 < n) × (n ≤ most) → ⊥) → Never n cs) → (u e w : ℕ) → run cs u ≡ ToldIs.Refused e w
+pub told_numbered : (most : ℕ) (cs : List Check) → ((n : ℕ) → ((0 < n) × (n ≤ most) → ⊥) → Never n cs) → (u e w : ℕ) → run cs u ≡ Err (leaving e w)
     → (0 < e) × (e ≤ most)
 told_numbered most cs others u e w q = by (ltb 0 e) (leb e most) refl refl
   where
@@ -72,10 +71,10 @@ module _ (v : Seen) (l : Limits) (h : Handle) (output scratch : ℕ) where
 
   -- decode's number is 0 exactly if it passes
   pub decode_number : (u : ℕ)
-      → (told_number (run (decode_checks v l h output scratch) u) ≡ 0) ↔ ((w : ℕ) × (run (decode_checks v l h output scratch) u ≡ ToldIs.Passed w))
+      → (told_number (run (decode_checks v l h output scratch) u) ≡ 0) ↔ ((w : ℕ) × (run (decode_checks v l h output scratch) u ≡ Ok w))
   decode_number u = told_number_lem (decode_checks v l h output scratch) u (never_decode 0 zero_unusual)
 
-  pub decode_numbered : (u e w : ℕ) → run (decode_checks v l h output scratch) u ≡ ToldIs.Refused e w → (0 < e) × (e ≤ 7)
+  pub decode_numbered : (u e w : ℕ) → run (decode_checks v l h output scratch) u ≡ Err (leaving e w) → (0 < e) × (e ≤ 7)
   decode_numbered = told_numbered 7 (decode_checks v l h output scratch) (λ n other. never_decode n (outside_unusual n other))
 
 -- strict reading sees a file whole, so 8 is given by no check
@@ -106,5 +105,5 @@ module _ (file : List ℕ) (page : ℕ) (l : Limits) where
         → (inspected_number (both_of v page l output scratch u) ≡ 0) ↔ ((h : Handle) × (w : ℕ) × (both_of v page l output scratch u ≡ Picture h w))
     read_number u = picture_number (both_checks v page l output scratch) u (handle_of v page) (never_read output scratch 0 zero_unusual)
 
-    pub read_numbered : (u e w : ℕ) → run (both_checks v page l output scratch) u ≡ ToldIs.Refused e w → (0 < e) × (e ≤ 7)
+    pub read_numbered : (u e w : ℕ) → run (both_checks v page l output scratch) u ≡ Err (leaving e w) → (0 < e) × (e ≤ 7)
     read_numbered = told_numbered 7 (both_checks v page l output scratch) (λ n other. never_read output scratch n (outside_unusual n other))

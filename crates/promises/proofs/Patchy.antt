@@ -11,9 +11,8 @@ use lib.ListN.{length, replicate, length-replicate}
 use Rattle.lists.proofs.Overlay.{length_span, overlay_length}
 use borrow.Author.Tests.{leb-true, le-leb}
 use Rattle.head.specs.Heads.{channels_of}
-use Rattle.checks.specs.Numbers.{limit, output_too_small}
+use Rattle.checks.specs.Numbers.{limit, output_too_small, leaving}
 use Rattle.checks.specs.Checks.{run, Holds, cost, Never}
-use Rattle.checks.specs.declared.Told.TheVariants as ToldIs
 use Rattle.checks.specs.Exact.{Exact, RefusedAt}
 use Rattle.checks.proofs.Exact.{accepted, both, cost_then, never_both}
 use Rattle.checks.proofs.Refusals.{refused}
@@ -37,6 +36,7 @@ use Rattle.patchy.proofs.Answers.{picture_told, refusal_told}
 use Rattle.promises.specs.Patchy.{Call, view, page_format, room, checks, Answered, RefusedWith, answer, output_then, scratch_then, quality_then, ReadFine, reading_charge, Reads}
 use Rattle.promises.proofs.Strict.{page_is_fine}
 use Rattle.promises.proofs.Numbers.{told_numbered}
+use Rattle.std.specs.Prelude.{Err}
 
 module _ (c : Call) where
   -- what the format asks for, without order
@@ -135,7 +135,7 @@ module _ (c : Call) where
     ),
   )
 
-  told_refused : (e w : ℕ) → RefusedWith c e w → run (checks c) c.units ≡ ToldIs.Refused e w
+  told_refused : (e w : ℕ) → RefusedWith c e w → run (checks c) c.units ≡ Err (leaving e w)
   told_refused e w q = refusal_told (run (checks c) c.units) (page_format c) e w q
 
   -- a number outside of 1 to 9 is given by no check

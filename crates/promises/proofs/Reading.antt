@@ -5,7 +5,6 @@ use mathlib.Core.Path.{◌≡◌, refl, ◌∙◌}
 use mathlib.Core.Logic.{◌↔◌}
 use native.Mathlib.Omega.{arith}
 use Rattle.checks.specs.Checks.{run, Holds, cost}
-use Rattle.checks.specs.declared.Told.TheVariants as ToldIs
 use Rattle.checks.specs.Exact.{Exact}
 use Rattle.checks.proofs.Exact.{accepted, both, cost_then, then, stops}
 use Rattle.checks.specs.Sizes.{most64}

@@ -13,9 +13,7 @@ use Rattle.lists.specs.Lists.{put}
 use Rattle.lists.proofs.Lesser.{lesser_min}
 use Rattle.lists.proofs.Overlay.{only_zeros}
 use Rattle.lists.proofs.Spread.{put_length, put_in, put_before, put_after}
-use Rattle.checks.specs.Numbers.{no_such_block}
-use Rattle.checks.specs.declared.Verdict.{Verdict}
-use Rattle.checks.specs.declared.Verdict.TheVariants.{Fine, Refused}
+use Rattle.checks.specs.Numbers.{no_such_block, Verdict, no_refusal}
 use Rattle.checks.proofs.Exact.{refused_fine}
 use Rattle.seen.specs.Seen.{blocks_in, block_start, block_length, block_came, also_came, none_came}
 use Rattle.seen.proofs.Blocks.{true_false}
@@ -25,6 +23,7 @@ use Rattle.trace.specs.Trace.{Message, start, block}
 use Rattle.receiver.specs.Receiver.{Reception, lent, suffices_for, Suffice, Admits, answer_to, accepted, received, received_all}
 use Rattle.promises.specs.Since.{Among, StartAmong, LastStart, BlockOf, CameSince, CameLast, Untouched, Kept}
 use Rattle.receiver.proofs.Receiving.{suffices_exact, before_start, admitted_place, fine_takes, refused_leaves, start_accepted, block_accepted}
+use Rattle.std.specs.Prelude.{Ok, Err}
 
 -- messages one after the other
 pub received_append : (a b : List Message) (s : Reception) → received_all (a ++ b) s ≡ received_all b (received_all a s)
@@ -116,7 +115,7 @@ module _ (size file map : ℕ) (fit : Suffice size file map) where
       },
     )
 
-    pub block_answered : (b : ℕ) (bytes : List ℕ) → (answer_to (block b bytes) s ≡ Fine) ↔ BlockOf size b bytes
+    pub block_answered : (b : ℕ) (bytes : List ℕ) → (answer_to (block b bytes) s ≡ no_refusal) ↔ BlockOf size b bytes
     block_answered b bytes =
         (λ e. (admitted b bytes).0 ((block_accepted s b bytes).0 e), λ w. (block_accepted s b bytes).1 ((admitted b bytes).1 w))
 
@@ -133,8 +132,8 @@ module _ (size file map : ℕ) (fit : Suffice size file map) where
     step (block b bytes) rest q = by (answer_to (block b bytes) s) refl
       where
         by : (v : Verdict) → answer_to (block b bytes) s ≡ v → Step size s (block b bytes)
-        by Fine e = placed b bytes ((block_answered b bytes).0 e) (fine_takes (block b bytes) s e)
-        by (Refused n) e = nothing (block b bytes) (refused_leaves (block b bytes) s (λ f. refused_fine n (sym e ∙ f)))
+        by (Ok x) e = placed b bytes ((block_answered b bytes).0 e) (fine_takes (block b bytes) s e)
+        by (Err n) e = nothing (block b bytes) (refused_leaves (block b bytes) s (λ f. refused_fine n (sym e ∙ f)))
 
     during_next : (m : Message) → Step size s m → During size file map (received m s)
     during_next _ (nothing m e) = rw e d
@@ -325,7 +324,7 @@ module _ (s : Reception) where
   abbrev pub SameLengths : Reception → Type 0
   SameLengths t = (length t.file ≡ length s.file) × (length t.map ≡ length s.map)
 
-  lengths_accepted : (m : Message) → answer_to m s ≡ Fine → SameLengths (accepted m s)
+  lengths_accepted : (m : Message) → answer_to m s ≡ no_refusal → SameLengths (accepted m s)
   unfolding accepted
   lengths_accepted (start size) e = (refl, length-replicate (length s.map) 0)
   lengths_accepted (block b bytes) e =
@@ -336,8 +335,8 @@ module _ (s : Reception) where
   lengths_one m = by (answer_to m s) refl
     where
       by : (v : Verdict) → answer_to m s ≡ v → SameLengths (received m s)
-      by Fine e = subst SameLengths (sym (fine_takes m s e)) (lengths_accepted m e)
-      by (Refused n) e = subst SameLengths (sym (refused_leaves m s (λ f. refused_fine n (sym e ∙ f)))) (refl, refl)
+      by (Ok x) e = subst SameLengths (sym (fine_takes m s e)) (lengths_accepted m e)
+      by (Err n) e = subst SameLengths (sym (refused_leaves m s (λ f. refused_fine n (sym e ∙ f)))) (refl, refl)
 
 pub lengths_all : (messages : List Message) (s : Reception) → SameLengths s (received_all messages s)
 unfolding received_all
@@ -379,7 +378,7 @@ module _ (messages : List Message) (s : Reception) (l : LastStart (length s.file
       (kept_since l.size (length s.file) (length s.map) l.suffices l.since l.none_later begun during_begun (length at_start.map) refl)
 
   -- a block that comes next is accepted exactly if it is one of the picture's
-  pub next_accepted : (b : ℕ) (bytes : List ℕ) → (answer_to (block b bytes) (received_all messages s) ≡ Fine) ↔ BlockOf l.size b bytes
+  pub next_accepted : (b : ℕ) (bytes : List ℕ) → (answer_to (block b bytes) (received_all messages s) ≡ no_refusal) ↔ BlockOf l.size b bytes
   next_accepted =
       let d = during_all l.size (length s.file) (length s.map) l.suffices l.since l.none_later begun during_begun in
       rw since_start (block_answered l.size (length s.file) (length s.map) l.suffices (received_all l.since begun) d)
@@ -437,7 +436,7 @@ module _ (file map : ℕ) where
 
 -- before any start nothing is taken: a start that is refused leaves all, and so does a block
 module _ (s : Reception) (idle : s.receiver.started ≡ false) where
-  pub block_before : (b : ℕ) (bytes : List ℕ) → answer_to (block b bytes) s ≡ Refused no_such_block
+  pub block_before : (b : ℕ) (bytes : List ℕ) → answer_to (block b bytes) s ≡ Err no_such_block
   unfolding answer_to
   block_before b bytes = sym (before_start s.receiver b (length bytes) (length s.file) (length s.map) idle)
 

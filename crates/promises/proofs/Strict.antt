@@ -8,9 +8,8 @@ use mathlib.Core.List.{List, []}
 use mathlib.Core.Bool.{true}
 use native.Mathlib.Omega.{arith}
 use borrow.Author.Tests.{leb-true, le-leb, ltb-true, lt-ltb}
-use Rattle.checks.specs.Numbers.{limit, not_arrived}
+use Rattle.checks.specs.Numbers.{limit, not_arrived, leaving}
 use Rattle.checks.specs.Checks.{run, Holds, cost, Never}
-use Rattle.checks.specs.declared.Told.TheVariants as ToldIs
 use Rattle.checks.specs.Exact.{Exact, RefusedAt}
 use Rattle.checks.proofs.Exact.{accepted, both, cost_then, never, never_both}
 use Rattle.checks.proofs.Refusals.{refused}
@@ -33,6 +32,7 @@ use Rattle.handle.proofs.Answers.{inspected_picture, inspected_refused}
 use Rattle.promises.specs.Strict.{PageFine, PictureFine, inspection_charge, Inspects}
 use Rattle.logluv_segment.proofs.Fees.{segments_cost}
 use Rattle.promises.proofs.Segments.{segments_fine, never_segments}
+use Rattle.std.specs.Prelude.{Ok, Err}
 
 module _ (v : Seen) (page : ℕ) (l : Limits) where
   limits_fine : Holds (limit_checks v.size page l) ↔ ((v.size ≤ l.max_input) × (page < l.max_directories))
@@ -97,10 +97,10 @@ module _ (v : Seen) (page : ℕ) (l : Limits) where
       λ i. rw ((accepted (inspect_checks v page l) u w).1 (is_exact h i), i.handle_is),
     )
 
-    pub told_passed : (h : Handle) → inspected_of v page l u ≡ Picture h w → run (inspect_checks v page l) u ≡ ToldIs.Passed w
+    pub told_passed : (h : Handle) → inspected_of v page l u ≡ Picture h w → run (inspect_checks v page l) u ≡ Ok w
     told_passed h q = (inspected_picture (run (inspect_checks v page l) u) (handle_of v page) h w q).0
 
-    pub told_refused : (e : ℕ) → inspected_of v page l u ≡ Refused e w → run (inspect_checks v page l) u ≡ ToldIs.Refused e w
+    pub told_refused : (e : ℕ) → inspected_of v page l u ≡ Refused e w → run (inspect_checks v page l) u ≡ Err (leaving e w)
     told_refused e q = inspected_refused (run (inspect_checks v page l) u) (handle_of v page) e w q
 
     -- it refuses exactly with the number of the first check that fails: the charges before stay taken, one that fails is not taken

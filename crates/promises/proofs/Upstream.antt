@@ -8,9 +8,6 @@ use native.Mathlib.Nat.{div-one, div-eq_of_lt}
 use borrow.Author.Tests.{leb-true}
 use Rattle.lists.specs.Lists.{lesser}
 use Rattle.checks.specs.Checks.{Check, run, verdict, Holds, cost}
-use Rattle.checks.specs.declared.Told.TheVariants.{Refused, Passed}
-use Rattle.checks.specs.declared.Verdict.{Verdict}
-use Rattle.checks.specs.declared.Verdict.TheVariants as VerdictIs
 use Rattle.checks.proofs.Exact.{accepted, fine, holds_then, cost_then, stops, run_refused}
 use Rattle.checks.proofs.Refusals.{refused}
 use Rattle.checks.specs.Sizes.{most64}
@@ -40,6 +37,8 @@ use Rattle.promises.proofs.Segments.{place_fine, segment_fine}
 use Rattle.promises.proofs.Strict.{page_valid, inspection_exact, inspection_refused}
 use Rattle.promises.proofs.Bounds.{fee_bound, bound_covers, scratch_given}
 use Rattle.promises.proofs.Handles.{given_inspected, handle_exact}
+use Rattle.checks.specs.Numbers.{Verdict, no_refusal, leaving}
+use Rattle.std.specs.Prelude.{Ok, Err}
 
 -- of strips there is one across, so strip k begins at row k × block height
 pub strip_rows : (f : Format) → Valid f → f.tiled ≡ false → (k : ℕ) → rows_in f k ≡ lesser (f.height - k * f.block_height) f.block_height
@@ -56,19 +55,19 @@ fees_more v f zero k = let z : k + 0 ≡ k = omega arith in rw z (omega arith)
 fees_more v f (suc n) k = let z : k + suc n ≡ suc k + n = omega arith in rw z (omega (arith, fees_more v f n (suc k)))
 
 -- no list of checks adds units
-pub passed_less : (cs : List Check) (u w : ℕ) → run cs u ≡ Passed w → w ≤ u
+pub passed_less : (cs : List Check) (u w : ℕ) → run cs u ≡ Ok w → w ≤ u
 passed_less cs u w e = omega (arith, ((accepted cs u w).0 e).rest)
 
-pub refused_less : (cs : List Check) (u e w : ℕ) → run cs u ≡ Refused e w → w ≤ u
+pub refused_less : (cs : List Check) (u e w : ℕ) → run cs u ≡ Err (leaving e w) → w ≤ u
 refused_less cs u e w q = omega (arith, ((refused cs u e w).0 q).rest)
 
-same_left : (n u e w : ℕ) → Refused n u ≡ Refused e w → w ≡ u
+same_left : (n u e w : ℕ) → Err (leaving n u) ≡ Err (leaving e w) → w ≡ u
 same_left n u e w q = cc
 
 -- one segment: what it charges is bounded, and with so many units a fine one passes
 module _ (v : Seen) (f : Format) (maxInput maxOutput k : ℕ) (small : v.size ≤ maxInput) where
   pub segment_passes : (u : ℕ) → SegmentFine v f maxOutput k → maxInput + 2 * maxOutput + 1 ≤ u → run (segment_checks v f maxOutput k) u
-      ≡ Passed (u - fee_of v f k)
+      ≡ Ok (u - fee_of v f k)
   segment_passes u s enough =
       (accepted (segment_checks v f maxOutput k) u (u - fee_of v f k)).1
       (record {
@@ -78,24 +77,24 @@ module _ (v : Seen) (f : Format) (maxInput maxOutput k : ℕ) (small : v.size �
         rest = ap (λ (c : ℕ). u - c) (sym (segment_cost v f maxOutput k));
       })
 
-  planned_fee : verdict (plan_checks v f maxOutput k) ≡ VerdictIs.Fine → fee_of v f k ≤ maxInput + 2 * maxOutput + 1
+  planned_fee : verdict (plan_checks v f maxOutput k) ≡ no_refusal → fee_of v f k ≤ maxInput + 2 * maxOutput + 1
   unfolding plan_checks area_checks Holds
   planned_fee e =
       let x = holds_then (place_checks v f k) (area_checks v f maxOutput k) ((fine (plan_checks v f maxOutput k)).0 e) in
       omega (arith, ((place_fine v f k).0 x.0).1.1.in_file, leb-true (scratch_for f.mono (area_of f k)) maxOutput x.1.0)
 
   -- and whatever it answers, it has charged no more than that
-  pub segment_charges : (u e w : ℕ) → run (segment_checks v f maxOutput k) u ≡ Refused e w → u - w ≤ maxInput + 2 * maxOutput + 1
+  pub segment_charges : (u e w : ℕ) → run (segment_checks v f maxOutput k) u ≡ Err (leaving e w) → u - w ≤ maxInput + 2 * maxOutput + 1
   unfolding segment_checks
   segment_charges u e w q = by (verdict (plan_checks v f maxOutput k)) refl
     where
       by : (t : Verdict) → verdict (plan_checks v f maxOutput k) ≡ t → u - w ≤ maxInput + 2 * maxOutput + 1
-      by VerdictIs.Fine t =
+      by (Ok x) t =
           let r = (refused (segment_checks v f maxOutput k) u e w).0 q in
           let c : cost (segment_checks v f maxOutput k) ≡ cost r.before + cost (r.check ∷ r.after) = ap cost r.splits
           ∙ cost_then r.before (r.check ∷ r.after) in
           omega (arith, r.rest, r.covered, c, segment_cost v f maxOutput k, planned_fee t)
-      by (VerdictIs.Refused n) t =
+      by (Err n) t =
           let s = stops (plan_checks v f maxOutput k) (fee_checks v f k) u n u (run_refused (plan_checks v f maxOutput k) u n (plan_free v f maxOutput k) t) in
           let z : w ≡ u = same_left n u e w (sym s ∙ q) in
           omega arith

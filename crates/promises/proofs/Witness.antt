@@ -27,12 +27,12 @@ use Rattle.admission.specs.Admission.{buffer_checks, charges_of, patchy_checks}
 use Rattle.promises.specs.Witness.{two_pixels, least_file, least_limits, units_for, lent_output, lent_scratch, strict_outcome, with_map, patchy_outcome, buffers_say, GoodAndBlank}
 use Prim.Native.Nat.{ℕ, zero, suc, ◌+◌, ◌*◌, ◌<◌}
 use mathlib.Core.Bool.{true, false}
-use Rattle.checks.specs.declared.Told.TheVariants.{Passed}
 use Rattle.picture.specs.declared.Format.{Format}
 use Rattle.marking.specs.Marks.{codes_of}
 use Rattle.promises.specs.Patchy.{output_then}
 use native.Mathlib.Omega.{arith}
 use lib.ListN.{length, get_or}
+use Rattle.std.specs.Prelude.{Ok}
 
 module _ (head : Head) where
   -- the format of its page, in either view
@@ -64,10 +64,10 @@ module _ (head : Head) where
   record Computed : Type 0 where
     format_whole : format_seen view_of_whole 0 ≡ least_format
     format_mapped : format_seen map_view 0 ≡ least_format
-    told_whole : run (both_checks view_of_whole 0 (least_limits head) (length (lent_output head)) (length (lent_scratch head))) (units_for head 2) ≡ Passed 0
+    told_whole : run (both_checks view_of_whole 0 (least_limits head) (length (lent_output head)) (length (lent_scratch head))) (units_for head 2) ≡ Ok 0
     told_mapped :
         run (patchy_checks map_view 1 0 (least_limits head) (record { output = length (lent_output head); scratch = length (lent_scratch head); quality = 2 }))
-        (units_for head 1) ≡ Passed 0
+        (units_for head 1) ≡ Ok 0
     picture_whole : picture_of least_format (shown view_of_whole least_format) ≡ two_pixels head
     picture_mapped : picture_of least_format (shows_of map_view least_format) ≡ two_pixels head
     codes_mapped : codes_of map_view least_format ≡ 1 ∷ []

@@ -8,10 +8,8 @@ use native.Mathlib.Omega.{arith}
 use lib.Dec.{eqb}
 use lib.ListN.{length}
 use borrow.Author.Tests.{eqb-true, eq-eqb}
-use Rattle.checks.specs.Numbers.{invalid, told_number}
+use Rattle.checks.specs.Numbers.{invalid, told_number, Told, leaving}
 use Rattle.checks.specs.Checks.{run, Holds}
-use Rattle.checks.specs.declared.Told.{Told}
-use Rattle.checks.specs.declared.Told.TheVariants as ToldIs
 use Rattle.checks.proofs.Exact.{accepted, never}
 use Rattle.checks.proofs.Rules.{must_no, must_yes}
 use Rattle.checks.specs.Sizes.{most64}
@@ -29,6 +27,7 @@ use Rattle.promises.specs.Words.{WordsGiven, WordsDecode}
 use Rattle.promises.proofs.Strict.{inspection_exact}
 use Rattle.promises.proofs.Numbers.{inspection_number}
 use Rattle.promises.proofs.Handles.{given_inspected, shown_valid, handle_exact, decode_exact, handle_given}
+use Rattle.std.specs.Prelude.{Ok, Err}
 
 -- the comparison says yes exactly of equal words
 both_true : (a b : Bool) → a && b ≡ true → (a ≡ true) × (b ≡ true)
@@ -74,8 +73,8 @@ shown_number : (h : Handle) (output scratch u : ℕ) → told_number (run (show_
 shown_number h output scratch u q = by (run (show_checks h output scratch) u) refl q
   where
     by : (t : Told) → run (show_checks h output scratch) u ≡ t → told_number t ≡ invalid → ⊥
-    by (ToldIs.Passed w) e z = omega arith
-    by (ToldIs.Refused n w) e z = shown_valid h output scratch u w (e ∙ ap (λ (x : ℕ). ToldIs.Refused x w) z)
+    by (Ok w) e z = omega arith
+    by (Err r) e z = shown_valid h output scratch u r.left (e ∙ ap (λ (x : ℕ). Err (leaving x r.left)) z)
 
 module _ (file : List ℕ) (page : ℕ) (l : Limits) (words : List ℕ) (units : ℕ) (output scratch : List ℕ) where
   -- where they are given the buffers and the charge decide
@@ -90,12 +89,12 @@ module _ (file : List ℕ) (page : ℕ) (l : Limits) (words : List ℕ) (units :
   words_decode g = by_handle g ∙ must_yes _ _ _ _ ((handle_exact (seen file []) l (handle_of (seen file []) page)).1 g.given) refl
 
   -- any others are refused with 2, and nothing is taken
-  pub words_refused : (WordsGiven (seen file []) page l words → ⊥) → words_decode_told file page l words units output scratch ≡ ToldIs.Refused invalid units
+  pub words_refused : (WordsGiven (seen file []) page l words → ⊥) → words_decode_told file page l words units output scratch ≡ Err (leaving invalid units)
   unfolding words_checks
   words_refused other = by (gives_words (inspected_of (seen file []) page l most64) words) refl
     where
       by : (t : Bool) → gives_words (inspected_of (seen file []) page l most64) words ≡ t → words_decode_told file page l words units output scratch
-          ≡ ToldIs.Refused invalid units
+          ≡ Err (leaving invalid units)
       by true q = absurd (other ((given_exact (seen file []) page l words).0 q))
       by false q = sym (must_no _ _ _ _ q)
 
@@ -107,7 +106,7 @@ module _ (file : List ℕ) (page : ℕ) (l : Limits) (words : List ℕ) (units :
   )
 
   -- decode of words succeeds, and leaves so many units, exactly if they are those of the page's handle and decode of that does
-  pub words_exact : (w : ℕ) → (words_decode_told file page l words units output scratch ≡ ToldIs.Passed w)
+  pub words_exact : (w : ℕ) → (words_decode_told file page l words units output scratch ≡ Ok w)
       ↔ WordsDecode (seen file []) page l words (length output) (length scratch) units w
   unfolding words_checks Holds
   words_exact w =

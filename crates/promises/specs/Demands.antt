@@ -1,8 +1,7 @@
 -- The three demands, each as one record whose fields are its sentences, over every call of either reading. What they speak of is defined in
 -- Strict.antt, StrictCall.antt and Patchy.antt beside this file; proofs/Demands.antt inhabits each record once.
-use Rattle.std.specs.Prelude.{ℕ, ◌*◌, ◌<◌, ◌≤◌, ◌≡◌, ◌↔◌, ◌⊎◌, List, length, take, get_or, replicate}
-use Rattle.checks.specs.Numbers.{invalid}
-use Rattle.checks.specs.declared.Told.TheVariants as ToldIs
+use Rattle.std.specs.Prelude.{ℕ, ◌*◌, ◌<◌, ◌≤◌, ◌≡◌, ◌↔◌, ◌⊎◌, List, length, take, get_or, replicate, Ok, Err}
+use Rattle.checks.specs.Numbers.{invalid, leaving}
 use Rattle.checks.specs.Exact.{RefusedAt}
 use Rattle.inspection.specs.Inspection.{inspect_checks}
 use Rattle.decoding.specs.Strict.{decode_checks, both_checks}
@@ -42,13 +41,13 @@ pub record Demand1 : Type 0 where
       → (inspect_answer c ≡ InspectedIs.Refused e w) ↔ RefusedAt (inspect_checks (whole_view c) c.page c.limits) c.units e w
   -- of decode of whatever handle: 2 exactly where the handle is not given, then 6 and 7
   pub decode_answers : (c : StrictCall) (h : Handle)
-      → ((w : ℕ) × (decode_answer c h ≡ ToldIs.Passed w)) ⊎ ((e : ℕ) × (w : ℕ) × ((decode_answer c h ≡ ToldIs.Refused e w) × Numbered 7 e))
+      → ((w : ℕ) × (decode_answer c h ≡ Ok w)) ⊎ ((e : ℕ) × (w : ℕ) × ((decode_answer c h ≡ Err (leaving e w)) × Numbered 7 e))
   pub decode_refused : (c : StrictCall) (h : Handle) (e w : ℕ)
-      → (decode_answer c h ≡ ToldIs.Refused e w)
+      → (decode_answer c h ≡ Err (leaving e w))
       ↔ RefusedAt (decode_checks (whole_view c) c.limits h (length c.output) (length c.scratch)) c.units e w
   pub decode_invalid : (c : StrictCall) (h : Handle) (w : ℕ)
-      → (decode_answer c h ≡ ToldIs.Refused invalid w) ↔ ((Given (whole_view c) c.limits h → ⊥) × (w ≡ c.units))
-  pub decode_leaves : (c : StrictCall) (h : Handle) (e w : ℕ) → decode_answer c h ≡ ToldIs.Refused e w
+      → (decode_answer c h ≡ Err (leaving invalid w)) ↔ ((Given (whole_view c) c.limits h → ⊥) × (w ≡ c.units))
+  pub decode_leaves : (c : StrictCall) (h : Handle) (e w : ℕ) → decode_answer c h ≡ Err (leaving e w)
       → (decode_output c h ≡ c.output) × (decode_scratch c h ≡ c.scratch)
   -- and of inspection and decode in one call
   pub read_answers : (c : StrictCall)
@@ -70,8 +69,8 @@ pub record Demand2 : Type 0 where
   -- decode passes and leaves w units exactly when its handle is given, the buffers hold the picture and scratch, and the sum of fees is covered; the
   -- picture is then in the output
   pub decode_accepts : (c : StrictCall) (h : Handle) (w : ℕ)
-      → (decode_answer c h ≡ ToldIs.Passed w) ↔ Decodes (whole_view c) c.limits h (length c.output) (length c.scratch) c.units w
-  pub decode_shows : (c : StrictCall) (h : Handle) (w : ℕ) → decode_answer c h ≡ ToldIs.Passed w
+      → (decode_answer c h ≡ Ok w) ↔ Decodes (whole_view c) c.limits h (length c.output) (length c.scratch) c.units w
+  pub decode_shows : (c : StrictCall) (h : Handle) (w : ℕ) → decode_answer c h ≡ Ok w
       → Shows (whole_view c) h c.output c.scratch (decode_output c h) (decode_scratch c h)
   -- the same of both in one call
   pub read_accepts : (c : StrictCall) (h : Handle) (w : ℕ)

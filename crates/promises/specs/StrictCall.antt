@@ -1,6 +1,5 @@
 -- A call of strict reading, and what is left of it: inspection and decode in one call, and decode of a handle.
 use Rattle.std.specs.Prelude.{ℕ, List, [], length}
-use Rattle.checks.specs.declared.Told.{Told}
 use Rattle.seen.specs.Seen.{Seen, seen}
 use Rattle.header.specs.declared.Limits.{Limits}
 use Rattle.inspection.specs.Inspection.{inspected_of}
@@ -8,6 +7,7 @@ use Rattle.handle.specs.Handle.{inspected_left}
 use Rattle.decoding.specs.Strict.{decoded_of, both_of, output_decoded, scratch_decoded, output_read, scratch_read}
 use Rattle.handle.specs.declared.Handle.{Handle}
 use Rattle.handle.specs.declared.Inspected.{Inspected}
+use Rattle.checks.specs.Numbers.{Told}
 
 -- the file, what is asked for, the units at hand, and the lent buffers as they stood before
 pub record StrictCall : Type 0 where
