@@ -5,7 +5,7 @@ ghost use Rattle.std.specs.Prelude.{◌≡◌, ◌*◌};
 ghost use Rattle.seen.specs.Seen.{seen, There};
 ghost use Rattle.tags.specs.Inner.{slot_if_known, entered_in, tags_of};
 
-// The slots by their TIFF names.
+// The slots by their TIFF names. They index the places of a directory's entries: an enum would be cast at each use, and is no plainer.
 pub const IMAGE_WIDTH: usize = 0;
 
 pub const IMAGE_LENGTH: usize = 1;
