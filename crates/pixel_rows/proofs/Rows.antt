@@ -110,7 +110,8 @@ module _ (w i n : ℕ) (row old : List ℕ) where
   pub front_colours : Within w i n (length row) (length old) → (out : List ℕ) (m : ℕ) → Front w i n row old out m → Colours w row i n old out m
   front_colours a out m f =
       let ys = joined (pixel_at colour_head w row) i m in
-      let c = colours_more w row i n old old 0 (colours_none w row i n old a) m (m * 6) 0 m i ys (omega (arith, f.upto)) refl refl (omega arith) (omega arith) refl in
+      let none = colours_none w row i n old a in
+      let c = colours_more w row i n old old 0 none m (m * 6) 0 m i ys (omega (arith, f.upto)) refl refl (omega arith) (omega arith) refl in
       rw (put_front (m * 6) ys old (front_long m f.upto), ← f.made) at c
 
 -- what is asked of a row, and what it shows, where the head is known

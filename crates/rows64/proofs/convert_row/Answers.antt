@@ -12,13 +12,14 @@ apart b t f = cc
 
 pub loop-channel-preserved : goal.loop-channel-preserved
 loop-channel-preserved c =
-    let is : c.if-goes_on.sample ≡ sample c.args.little c.args.predict c.args.ch c.args.reset c.args.raw.now (c.loop-column.column * c.args.ch + c.loop-channel.channel) =
+    let a = c.args in
+    let is : c.if-goes_on.sample ≡ sample a.little a.predict a.ch a.reset a.raw.now (c.loop-column.column * a.ch + c.loop-channel.channel) =
     elim c.if-goes_on.branch [
       | then-goes_on w ↦ elim c.if-predict.branch [
         | then-predict p ↦
             let h = ltb-true _ _ (sym p.goes_on-is ∙ w.if-goes_on.true) in
-            next_on _ _ _ _ _ _ _ _ _ _ c.loop-channel.invariant c.loop-channel-test.true _ c.load-sample.ensures _ _ _ p.if-predict.true (omega arith) (omega arith)
-            w.load-sample-then-goes_on.ensures w.sample-is
+            next_on _ _ _ _ _ _ _ _ _ _ c.loop-channel.invariant c.loop-channel-test.true _ c.load-sample.ensures _ _ _ p.if-predict.true (omega arith)
+            (omega arith) w.load-sample-then-goes_on.ensures w.sample-is
         | else-predict p ↦ absurd (apart _ (sym p.goes_on-is ∙ w.if-goes_on.true) p.if-predict.false)
       ]
       | else-goes_on w ↦ w.sample-is
