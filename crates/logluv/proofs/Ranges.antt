@@ -1,31 +1,23 @@
 -- A range of a file that is accepted: it lies inside, and its packets are accepted.
-use Prim.Native.Nat.{ℕ, zero, suc, ◌+◌, ◌-◌, ◌*◌, ◌/◌, ◌%◌, ◌<◌, ◌≤◌}
-use mathlib.Core.Path.{◌≡◌, refl, sym, ap, ◌∙◌}
-use mathlib.Core.List.{List, [], ◌∷◌}
-use mathlib.Core.Bool.{Bool, true, false}
-use native.Mathlib.Omega.{arith}
-use native.Mathlib.Nat.{add-sub_cancel_left, mod-lt, div-add-mod', mul-add-mod_self_right, mod-eq_of_lt, suc-mul, zero-mul}
-use native.Mathlib.Numerals.{add-one}
-use lib.ListN.{length, take, drop, get_or, length-drop, drop_of_length-le}
-use lib.Seq.{drop-cons, drop-drop}
-use lib.Dec.{leb, eqb}
-use borrow.Author.Rules.{rules}
-use borrow.Author.Tests.{lt-ltb, le-ltb, eq-eqb, ne_eqb, eqb-true, eqb-false, leb-true}
+use Prim.Native.Nat.{ℕ, ◌+◌, ◌-◌}
+use mathlib.Core.Path.{◌≡◌, sym}
+use mathlib.Core.List.{List}
+use native.Mathlib.Nat.{add-sub_cancel_left}
+use lib.ListN.{take, drop}
+use borrow.Author.Tests.{leb-true}
 use Rattle.lists.specs.Lists.{overlay}
 use Rattle.checks.specs.Checks.{verdict, Holds}
-use Rattle.checks.specs.declared.Verdict.{Verdict}
-use Rattle.checks.specs.declared.Verdict.TheVariants.{Fine}
 use Rattle.checks.proofs.Exact.{fine}
 use Rattle.packets.specs.Packets.{expand, part, range_checks}
 use Rattle.packets.specs.Inner.{Accepted}
 use Rattle.logluv.specs.Inner.{Ranged}
+use Rattle.std.specs.Prelude.{Ok}
 
 -- an accepted range lies inside the file, and its packets are accepted
-pub ranged : {r : Verdict} (s : List ℕ) (start count stride needed : ℕ) → r ≡ verdict (range_checks s start count stride needed) → r ≡ Fine
-    → Ranged s start count needed
+pub ranged : (s : List ℕ) (start count stride needed : ℕ) {y : Unit {0}} → Ok y ≡ verdict (range_checks s start count stride needed) → Ranged s start count needed
 unfolding range_checks Holds
-ranged s start count stride needed e q =
-    let h = (fine (range_checks s start count stride needed)).0 (sym e ∙ q) in
+ranged s start count stride needed e =
+    let h = (fine (range_checks s start count stride needed)).0 (sym e) in
     record {
       from = leb-true _ _ h.1.0;
       upto = leb-true _ _ h.1.1.0;

@@ -1,12 +1,12 @@
 -- The cursor's steps: a packet opened, a byte given, and the loop that writes what it gives.
 use Prim.Native.Nat.{ℕ, suc, ◌+◌, ◌-◌, ◌<◌, ◌≤◌}
 use mathlib.Core.Path.{◌≡◌, refl, sym, ap, ◌∙◌}
-use mathlib.Core.List.{List, [], ◌∷◌, ◌++◌}
+use mathlib.Core.List.{List, [], ◌∷◌, ◌++◌, append-nil}
 use mathlib.Core.Bool.{Bool, true, false}
 use native.Mathlib.Omega.{arith}
 use native.Mathlib.Nat.{add-zero}
 use native.Mathlib.Numerals.{add-one}
-use lib.ListN.{length, take, drop, get_or, set, replicate, length-append}
+use lib.ListN.{length, take, drop, get_or, set, replicate, length-append, drop_of_length-le}
 use lib.Seq.{drop-cons, get_or-drop, length-take-le}
 use lib.Dec.{leb, ltb}
 use borrow.Author.Rules.{rules}
@@ -102,21 +102,21 @@ module _ (p : List ℕ) (c d : Cursor) (r : Ready p c d) where
   pub byte_in : d.place < length p
   byte_in = r.sound.byte r.some
 
-  pub step_run : d.repeat ≡ true → Stepped p c (get_or p d.place 0) (record { at = d.at; place = d.place; run = d.run - 1; repeat = true })
+  pub step_run : d.repeat ≡ true → Stepped p c (get_or p d.place 0) (record { at = d.at; place = d.place; run = d.run - 1; repeat = d.repeat })
   unfolding ahead
   step_run e =
       record {
         sound = record {
           inside = r.sound.inside;
           byte = λ h. byte_in;
-          literal = λ q. absurd (let z : ◌≡◌ {A = ℕ} 0 1 = cc in omega arith);
+          literal = λ q. absurd cc;
           left = r.sound.left;
           rest = r.sound.rest;
         };
         gives = sym r.same ∙ rw (e, run_more d.run (get_or p d.place 0) r.some);
       }
 
-  pub step_literal : d.repeat ≡ false → Stepped p c (get_or p d.place 0) (record { at = d.at; place = d.place + 1; run = d.run - 1; repeat = false })
+  pub step_literal : d.repeat ≡ false → Stepped p c (get_or p d.place 0) (record { at = d.at; place = d.place + 1; run = d.run - 1; repeat = d.repeat })
   unfolding ahead
   step_literal e =
       let l = r.sound.literal e in
@@ -175,5 +175,15 @@ module _ (p : List ℕ) (needed : ℕ) (old out : List ℕ) (c : Cursor) (i : �
       empty : (l : List ℕ) → length l ≡ 0 → l ≡ []
       empty [] e = refl
       empty (x ∷ l) e = absurd (omega arith)
+
+-- a front that is written whole
+pub giving_front : (p : List ℕ) (needed : ℕ) (old front : List ℕ) (c : Cursor) (i : ℕ) → needed ≤ length old → Giving p needed (take needed old) front c i
+    → length (take needed old) ≤ i → front ++ drop needed old ≡ overlay (expand p 0) old
+unfolding overlay
+giving_front p needed old front c i h g t =
+    let long : length (take needed old) ≡ needed = length-take-le needed old h in
+    let e : front ≡ overlay (expand p 0) (take needed old) = giving_all p needed (take needed old) front c i g (omega arith) in
+    let z : length (take needed old) ≤ length (expand p 0) = omega (arith, g.whole) in
+    rw (e, drop_of_length-le (take needed old) z, append-nil, g.whole)
 
 pub ruleset steps = (more_packets, opened, byte_in, step_run, step_literal, giving_none, giving_some, giving_more, giving_all, rules)

@@ -9,9 +9,10 @@ ghost use Rattle.packets.specs.Packets.{expand, part, range_decode_checks};
 ghost use Rattle.packets.specs.Inner.{Accepted};
 ghost use Rattle.logluv.specs.Inner.{Ranged, start_cursor, ahead, SoundCursor, Opened, Ready, Stepped};
 
-use checks::{OUTPUT_TOO_SMALL, Verdict};
+use checks::Refusal;
 
 // A place in a range of accepted packets: where the next packet starts, and what is left of the one at hand.
+// No `Iterator`: who calls knows how many bytes there are, so an Option of each would be made only to be taken apart.
 #[derive(Clone, Copy)]
 struct Cursor {
     at: usize,
@@ -20,17 +21,11 @@ struct Cursor {
     repeat: bool,
 }
 
-#[derive(Clone, Copy)]
-struct Step {
-    byte: u8,
-    cursor: Cursor,
-}
-
 impl Cursor {
-    fn new() -> Cursor
+    fn new() -> Self
         ensures { result ≡ start_cursor }
     {
-        Cursor {
+        Self {
             at: 0,
             place: 0,
             run: 0,
@@ -38,81 +33,57 @@ impl Cursor {
         }
     }
 
-    // The packet after one that is used up.
-    fn next_packet(self, p: &[u8]) -> Cursor
-        requires { SoundCursor p.now self × (self.run ≡ 0) × (0 < length (ahead p.now self)) }
-        ensures { Opened p.now self result }
+    // To the packet after one that is used up.
+    #[tactic(auto, using(crate::proofs::Steps::steps))]
+    fn next_packet(&mut self, p: &[u8])
+        requires { SoundCursor p.now self.old × (self.old.run ≡ 0) × (0 < length (ahead p.now self.old)) }
+        ensures { Opened p.now self.old self.new }
     {
-        let at = self.at;
-        let k = packets::packet_at(p, at);
-        let control = k.control;
-        let place = at + 1;
-        let next = place + k.payload;
-        Cursor {
-            at: next,
-            place: place,
-            run: k.len,
-            repeat: 128 <= control,
+        let packet = packets::packet_at(p, self.at);
+        let place = self.at + 1;
+        *self = Self {
+            at: place + packet.payload,
+            place,
+            run: packet.len,
+            repeat: 128 <= packet.control,
+        };
+    }
+
+    // To a packet that has a byte to give: those of control 0 have none.
+    fn ready(&mut self, p: &[u8])
+        requires { SoundCursor p.now self.old × (0 < length (ahead p.now self.old)) }
+        ensures { Ready p.now self.old self.new }
+    {
+        while self.run == 0 {
+            self.next_packet(p);
         }
     }
 
-    // The cursor at a packet that has a byte to give: those of control 0 have none.
-    fn ready(self, p: &[u8]) -> Cursor
-        requires { SoundCursor p.now self × (0 < length (ahead p.now self)) }
-        ensures { Ready p.now self result }
+    // The next byte.
+    #[tactic(auto, using(crate::proofs::Steps::steps))]
+    fn next(&mut self, p: &[u8]) -> u8
+        requires { SoundCursor p.now self.old × (0 < length (ahead p.now self.old)) }
+        ensures { Stepped p.now self.old result self.new }
     {
-        let mut c = self;
-        while c.run == 0 {
-            c = c.next_packet(p);
+        self.ready(p);
+        let byte = p[self.place];
+        self.run -= 1;
+        if !self.repeat {
+            self.place += 1;
         }
-        c
-    }
-
-    // The next byte, and the cursor after it.
-    fn next(self, p: &[u8]) -> Step
-        requires { SoundCursor p.now self × (0 < length (ahead p.now self)) }
-        ensures { Stepped p.now self result.byte result.cursor }
-    {
-        let c = self.ready(p);
-        let place = c.place;
-        let byte = p[place];
-        let run = c.run - 1;
-        if c.repeat {
-            Step {
-                byte: byte,
-                cursor: Cursor {
-                    at: c.at,
-                    place: place,
-                    run: run,
-                    repeat: true,
-                },
-            }
-        } else {
-            Step {
-                byte: byte,
-                cursor: Cursor {
-                    at: c.at,
-                    place: place + 1,
-                    run: run,
-                    repeat: false,
-                },
-            }
-        }
+        byte
     }
 }
 
 // What accepted packets stand for, over the front of a buffer, one byte a step.
+#[tactic(auto, using(crate::proofs::Steps::steps))]
 pub fn expand_part(p: &[u8], needed: usize, out: &mut [u8])
     requires { Accepted p.now needed × (needed ≤ length out.old) }
     ensures { out.new ≡ overlay (expand p.now 0) out.old }
 {
-    let mut c = Cursor::new();
-    let mut i: usize = 0;
-    while i < needed {
-        let s = c.next(p);
-        out[i] = s.byte;
-        c = s.cursor;
-        i += 1;
+    let mut cursor = Cursor::new();
+    for place in out[..needed].iter_mut() {
+        *place = cursor.next(p);
     }
 }
 
@@ -121,11 +92,11 @@ fn expand_range(s: &[u8], start: usize, count: usize, needed: usize, out: &mut [
     requires { Ranged s.now start count needed × (needed ≤ length out.old) }
     ensures { out.new ≡ overlay (expand (part s.now start count) 0) out.old }
 {
-    let end = start + count;
-    expand_part(&s[start..end], needed, out);
+    expand_part(&s[start..start + count], needed, out);
 }
 
 // Refused as by validate, then a short buffer with 6.
+#[tactic(auto, using(checks::proofs::Rules::verdict_calls))]
 pub fn decode(
     s: &[u8],
     start: usize,
@@ -133,18 +104,14 @@ pub fn decode(
     stride: usize,
     needed: usize,
     out: &mut [u8],
-) -> Verdict
+) -> Result<(), Refusal>
     ensures answer { result ≡ verdict (range_decode_checks s.now start count stride needed (length out.old)) }
     ensures buffer { out.new ≡ afterwards result (expand (part s.now start count) 0) out.old }
 {
-    match packets::validate(s, start, count, stride, needed) {
-        Verdict::Refused(e) => Verdict::Refused(e),
-        Verdict::Fine => {
-            if out.len() < needed {
-                return Verdict::Refused(OUTPUT_TOO_SMALL);
-            }
-            expand_range(s, start, count, needed, out);
-            Verdict::Fine
-        }
+    packets::validate(s, start, count, stride, needed)?;
+    if out.len() < needed {
+        return Err(Refusal::OutputTooSmall);
     }
+    expand_range(s, start, count, needed, out);
+    Ok(())
 }

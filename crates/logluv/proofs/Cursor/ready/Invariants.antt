@@ -4,8 +4,8 @@ use mathlib.Core.Path.{◌≡◌}
 use Prim.Native.Nat.{◌-◌, ◌<◌}
 use Rattle.logluv.proofs.Cursor.ready.Given as goal
 
-abbrev pub invariant-loop-c : goal.invariant-loop-c
-invariant-loop-c l = SoundCursor l.p l.c × (ahead l.p l.c ≡ ahead l.p l.initial.c) × (0 < length (ahead l.p l.c))
+abbrev pub invariant-loop-self : goal.invariant-loop-self
+invariant-loop-self l = SoundCursor l.p l.self × (ahead l.p l.self ≡ ahead l.p l.initial.self) × (0 < length (ahead l.p l.self))
 
-abbrev pub decreases-loop-c : goal.decreases-loop-c
-decreases-loop-c l = length l.p - l.c.at
+abbrev pub decreases-loop-self : goal.decreases-loop-self
+decreases-loop-self l = length l.p - l.self.at
