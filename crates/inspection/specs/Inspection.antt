@@ -1,5 +1,5 @@
 -- Strict inspection: its checks from the first limit to the last packet, the handle that it gives, and when a handle is what it gives.
-use Rattle.std.specs.Prelude.{ℕ, Bool, List, ◌++◌}
+use Rattle.std.specs.Prelude.{ℕ, Bool, List, ◌++◌, Result}
 use Rattle.checks.specs.Checks.{Check, run}
 use Rattle.checks.specs.Sizes.{most64}
 use Rattle.seen.specs.Seen.{Seen}
@@ -12,6 +12,7 @@ use Rattle.logluv_segment.specs.Segment.{each_segment, fees_of}
 use Rattle.handle.specs.Handle.{inspected, gives}
 use Rattle.handle.specs.declared.Handle.{Handle}
 use Rattle.handle.specs.declared.Inspected.{Inspected}
+use Rattle.checks.specs.declared.Refused.{Refused}
 
 -- the handle of a page with this format, where the fees make up this work (rule 7.2)
 abbrev pub handle_with : Format → ℕ → ℕ → Handle
@@ -39,7 +40,7 @@ module _ (v : Seen) where
       ++ (front_checks v page l
       ++ segments_checks (format_seen v page) l.max_output)
 
-  abbrev pub inspected_of : ℕ → Limits → ℕ → Inspected
+  abbrev pub inspected_of : ℕ → Limits → ℕ → Result Inspected Refused
   inspected_of page l left = inspected (run (inspect_checks page l) left) (handle_of page)
 
 -- a handle is what an inspection of its page answers where the units suffice for any charge (rule 7.4)

@@ -1,30 +1,18 @@
--- What is left of the list decides as the whole does; each turn is one segment.
-use Rattle.inspection.proofs.Inspecting.{checking}
+-- The segments so far passed; the first that is refused ends the list.
+use native.Mathlib.Omega.{arith}
+use Rattle.checks.proofs.Rules.{handed_on}
+use Rattle.inspection.proofs.Inspecting.{checking_none, segment_refused, checking_more, checking_all}
 use Rattle.inspection.proofs.check_segments.Goals as goal
 
 pub loop-k-init : goal.loop-k-init
-loop-k-init c = search checking
+loop-k-init c = checking_none _ _ _ _
 
-pub check_segment-requires : goal.check_segment-requires
-check_segment-requires c = search checking
-
-pub enum_known-e : goal.enum_known-e
-enum_known-e c = search checking
-
-pub returns-in-Refused : goal.returns-in-Refused
-returns-in-Refused c = search checking
-
-pub enum_known-u : goal.enum_known-u
-enum_known-u c = search checking
-
-pub overflow_add-k : goal.overflow_add-k
-overflow_add-k c = search checking
-
-pub loop-k-smaller : goal.loop-k-smaller
-loop-k-smaller c = search checking
+pub returns-in_err-check_segment : goal.returns-in_err-check_segment
+returns-in_err-check_segment c =
+    handed_on c.from_residual.ensures.1 (segment_refused _ _ _ _ _ _ c.loop-k.invariant (omega arith) c.in_err-check_segment.ensures)
 
 pub loop-k-preserved : goal.loop-k-preserved
-loop-k-preserved c = search checking
+loop-k-preserved c = checking_more _ _ _ _ _ _ c.loop-k.invariant (omega arith) c.in_ok-check_segment.ensures
 
 pub returns : goal.returns
-returns c = search checking
+returns c = checking_all _ _ _ _ _ _ c.loop-k.invariant (omega arith)

@@ -1,21 +1,9 @@
--- A handle is compared with the one that an inspection of its page gives.
-use Rattle.inspection.proofs.Inspecting.{given}
+-- What the inspection gives is compared; where it refuses, there is nothing to compare.
+use Rattle.inspection.proofs.Inspecting.{none_given, compared}
 use Rattle.inspection.proofs.is_handle.Goals as goal
 
-pub inspect_seen-requires : goal.inspect_seen-requires
-inspect_seen-requires c = search given
+pub returns-in-Ok : goal.returns-in-Ok
+returns-in-Ok c = compared _ _ _ c.in-Ok.ensures c.same_handle.ensures
 
-pub enum_told-1 : goal.enum_told-1
-enum_told-1 c = search given
-
-pub enum_known-found : goal.enum_known-found
-enum_known-found c = search given
-
-pub same_handle-requires : goal.same_handle-requires
-same_handle-requires c = search given
-
-pub returns-in-Refused : goal.returns-in-Refused
-returns-in-Refused c = search given
-
-pub returns-in-Picture : goal.returns-in-Picture
-returns-in-Picture c = search given
+pub returns-in-Err : goal.returns-in-Err
+returns-in-Err c = none_given _ _ _ c.in-Err.ensures
