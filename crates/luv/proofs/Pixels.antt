@@ -1,11 +1,9 @@
 -- The rows of pixels one after the other, and the sizes of planes and pixels, for either head.
-use Prim.Native.Nat.{ℕ, ◌+◌, ◌-◌, ◌*◌, ◌^◌, ◌<◌, ◌≤◌}
-use mathlib.Core.Path.{◌≡◌, refl, sym, ap, ◌∙◌}
+use Prim.Native.Nat.{ℕ, ◌*◌, ◌<◌, ◌≤◌}
+use mathlib.Core.Path.{◌≡◌, refl, ap, ◌∙◌}
 use mathlib.Core.List.{List, [], ◌∷◌}
 use native.Mathlib.Omega.{arith}
 use native.Mathlib.Nat.{le-mul_of_pos_right, mul-le-mul_right, zero-mul}
-use borrow.Author.Rules.{rules}
-use borrow.Rule.Slice.PartMut.{mid_of, put_mid, mid_len}
 use mir.Syntax.{w64}
 use mir.Val as val
 use lib.ListN.{length}
@@ -19,7 +17,6 @@ use Rattle.checks.proofs.Rules.{verdicts}
 use Rattle.checks.proofs.Sizes.{Known, fits_is, over_is}
 use Rattle.checks.specs.Sizes.{within, most64}
 use Rattle.pixel.specs.Luv.{row_pixels, pixels}
-use Rattle.pixel_rows.specs.Inner.{Convertible}
 use Rattle.pixel.proofs.Rows.{row_length}
 use Rattle.luv.specs.Convert.{convert_checks}
 use Rattle.luv.specs.Inner.{Scatterable}
@@ -117,5 +114,3 @@ module _ (head : Head) (w rows size : ℕ) (k : Known (rows * (bytes_of head * w
                 planes_in = omega (arith, planes_are);
                 rows_in = λ r h. omega (arith, row_fits r rows (bytes_of head * w) h, k.is);
               })
-
-pub ruleset sizes = (size_known, size_over, none_fine, none_written, pixels_fit, planes_fit, planes_short, out_short, both_fine, row_fits_word, both_sized, rules)
