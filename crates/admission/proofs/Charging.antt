@@ -1,6 +1,6 @@
 -- The one charge for all segments: what is summed so far, with what is still to come, is the whole.
 use Prim.Native.Nat.{ℕ, suc, ◌+◌, ◌-◌, ◌<◌, ◌≤◌}
-use mathlib.Core.Path.{◌≡◌, ◌∙◌}
+use mathlib.Core.Path.{◌≡◌, refl, ◌∙◌}
 use native.Mathlib.Omega.{arith}
 use native.Mathlib.Nat.{sub-zero}
 use native.Mathlib.Numerals.{add-one}
@@ -30,21 +30,20 @@ module _ (v : Seen) (f : Format) (k total : ℕ) (s : Charging v f k total) wher
         let e : f.segments - k ≡ suc (f.segments - (k + 1)) = omega arith in
         s.whole ∙ rw (e, add-one k)
 
-    module _ {a : Option ℕ} (ea : a ≡ within (segment_charge v f k)) where
-      pub charge_over : a ≡ None → None ≡ within (picture_charge v f)
-      charge_over q = over_part (segment_charge v f k) (picture_charge v f) ea q (omega (arith, opened))
+    pub charge_over : None ≡ within (segment_charge v f k) → None ≡ within (picture_charge v f)
+    charge_over q = over_part (segment_charge v f k) (picture_charge v f) q refl (omega (arith, opened))
 
-      module _ (charge : ℕ) (qa : a ≡ Some charge) {b : Option ℕ} (eb : b ≡ within (total + charge)) where
-        charge_is_lem : charge ≡ segment_charge v f k
-        charge_is_lem = (fits_is (segment_charge v f k) charge ea qa).is
+    module _ {charge : ℕ} (q : Some charge ≡ within (segment_charge v f k)) where
+      charge_is_lem : charge ≡ segment_charge v f k
+      charge_is_lem = (fits_is (segment_charge v f k) charge q refl).is
 
-        pub sum_over : b ≡ None → None ≡ within (picture_charge v f)
-        sum_over q = over_part (total + charge) (picture_charge v f) eb q (omega (arith, opened, charge_is_lem))
+      pub sum_over : None ≡ within (total + charge) → None ≡ within (picture_charge v f)
+      sum_over e = over_part (total + charge) (picture_charge v f) e refl (omega (arith, opened, charge_is_lem))
 
-        pub charging_more : (more : ℕ) → b ≡ Some more → Charging v f (k + 1) more
-        charging_more more q =
-            let t = fits_is (total + charge) more eb q in
-            record { upto = omega arith; small = omega (arith, t.is, t.small); whole = omega (arith, opened, charge_is_lem, t.is) }
+      pub charging_more : {more : ℕ} → Some more ≡ within (total + charge) → Charging v f (k + 1) more
+      charging_more e =
+          let t = fits_is (total + charge) _ e refl in
+          record { upto = omega arith; small = omega (arith, t.is, t.small); whole = omega (arith, opened, charge_is_lem, t.is) }
 
   pub charging_all : f.segments ≤ k → Some total ≡ within (picture_charge v f)
   unfolding charges_of
@@ -53,5 +52,3 @@ module _ (v : Seen) (f : Format) (k total : ℕ) (s : Charging v f k total) wher
       let z : picture_charge v f ≡ total + charges_of v f k 0 = s.whole ∙ rw e in
       let w : picture_charge v f ≡ total = omega (arith, z) in
       rw w (fits total s.small)
-
-pub ruleset charging = (charging_none, charge_over, sum_over, charging_more, charging_all, rules)

@@ -1,5 +1,5 @@
 -- What can refuse a patchy reading: its checks from the first limit to the one charge for all segments.
-use Rattle.std.specs.Prelude.{ℕ, zero, suc, ◌+◌, List, [], ◌∷◌, ◌++◌, leb, length}
+use Rattle.std.specs.Prelude.{ℕ, zero, suc, ◌+◌, List, [], ◌∷◌, ◌++◌, leb, length, Result}
 use Rattle.checks.specs.Numbers.{limit, output_too_small}
 use Rattle.checks.specs.Checks.{Check, must, pay, run}
 use Rattle.checks.specs.Sizes.{most64}
@@ -8,6 +8,7 @@ use Rattle.header.specs.Header.{limit_checks}
 use Rattle.header.specs.declared.Limits.{Limits}
 use Rattle.front.specs.Front.{found, front_checks, format_seen}
 use Rattle.front.specs.declared.Found.{Found}
+use Rattle.checks.specs.declared.Refused.{Refused}
 use Rattle.picture.specs.declared.Format.{Format}
 use Rattle.picture.specs.Picture.{scratch_of}
 use Rattle.quality.specs.Quality.{segment_charge}
@@ -46,5 +47,5 @@ module _ (v : Seen) where
       ++ (must (leb (picture_charge (format_seen v page)) most64) limit ∷
       pay (picture_charge (format_seen v page)) ∷ []))))
 
-  abbrev pub admitted : ℕ → ℕ → Limits → Room → ℕ → Found
+  abbrev pub admitted : ℕ → ℕ → Limits → Room → ℕ → Result Found Refused
   admitted map page l room left = found (run (patchy_checks map page l room) left) (format_seen v page)

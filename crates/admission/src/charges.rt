@@ -5,26 +5,17 @@ ghost use Rattle.seen.specs.Seen.{seen};
 ghost use Rattle.picture.specs.Inner.{Readable};
 ghost use Rattle.admission.specs.Admission.{picture_charge};
 
-use checks::Size;
 use picture::Format;
 
 // What the segments are charged, each in turn; a sum above 2^64-1 is over.
-pub(crate) fn charge_all(file: &[u8], map: &[u8], format: Format) -> Size
+pub(crate) fn charge_all(file: &[u8], map: &[u8], format: Format) -> Option<usize>
     requires { Readable (seen file.now map.now) format }
     ensures { result ≡ within (picture_charge (seen file.now map.now) format) }
 {
-    let segments = format.segments;
-    let mut k: usize = 0;
     let mut total: usize = 0;
-    while k < segments {
-        let Size::Fits(charge) = quality::charge_of(file, map, format, k) else {
-            return Size::Over;
-        };
-        let Size::Fits(more) = checks::sum(total, charge) else {
-            return Size::Over;
-        };
-        total = more;
-        k += 1;
+    for k in 0..format.segments {
+        let charge = quality::charge_of(file, map, format, k)?;
+        total = checks::sum(total, charge)?;
     }
-    Size::Fits(total)
+    Some(total)
 }

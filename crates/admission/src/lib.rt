@@ -8,7 +8,7 @@ ghost use Rattle.picture.specs.Inner.{Valid, Readable};
 ghost use Rattle.admission.specs.Admission.{admitted};
 ghost use Rattle.admission.specs.Inner.{room_checks, charge_checks, admitted_format, admitted_page};
 
-use checks::{LIMIT, OUTPUT_TOO_SMALL, Size, Told, Verdict};
+use checks::{Refusal, Refused};
 use front::Found;
 use header::Limits;
 use picture::Format;
@@ -17,7 +17,7 @@ use picture::Format;
 mod charges;
 
 // The lengths of the lent buffers.
-#[derive(Clone, Copy)]
+#[derive(Clone, Copy, Debug, PartialEq, Eq)]
 pub struct Room {
     pub output: usize,
     pub scratch: usize,
@@ -25,35 +25,28 @@ pub struct Room {
 }
 
 // Scratch within max_output, then room in each buffer.
-fn check_room(format: Format, max_output: usize, room: Room) -> Verdict
+#[tactic(auto, using(crate::proofs::Admitting::rooms))]
+fn check_room(format: Format, max_output: usize, room: Room) -> Result<(), Refusal>
     requires { Valid format }
     ensures { result ≡ verdict (room_checks format max_output room) }
 {
     let needed = picture::scratch_of(format);
     if max_output < needed {
-        return Verdict::Refused(LIMIT);
+        return Err(Refusal::Limit);
     }
-    if room.output < format.output {
-        return Verdict::Refused(OUTPUT_TOO_SMALL);
+    if room.output < format.output || room.scratch < needed || room.quality < format.segments {
+        return Err(Refusal::OutputTooSmall);
     }
-    if room.scratch < needed {
-        return Verdict::Refused(OUTPUT_TOO_SMALL);
-    }
-    if room.quality < format.segments {
-        return Verdict::Refused(OUTPUT_TOO_SMALL);
-    }
-    Verdict::Fine
+    Ok(())
 }
 
 // The one charge: its sum above 2^64-1 is 4, units below it 7.
-fn charge(file: &[u8], map: &[u8], format: Format, left: usize) -> Told
+fn charge(file: &[u8], map: &[u8], format: Format, left: usize) -> Result<usize, Refused>
     requires { Readable (seen file.now map.now) format }
     ensures { result ≡ run (charge_checks (seen file.now map.now) format) left }
 {
-    match charges::charge_all(file, map, format) {
-        Size::Over => Told::Refused(LIMIT, left),
-        Size::Fits(work) => checks::spend(left, work),
-    }
+    let work = charges::charge_all(file, map, format).ok_or(Refusal::Limit.leaving(left))?;
+    checks::spend(left, work)
 }
 
 // The buffers, then the charge.
@@ -64,17 +57,13 @@ fn admit_format(
     max_output: usize,
     room: Room,
     left: usize,
-) -> Found
+) -> Result<Found, Refused>
     requires { Readable (seen file.now map.now) format }
     ensures { result ≡ admitted_format (seen file.now map.now) format max_output room left }
 {
-    match check_room(format, max_output, room) {
-        Verdict::Refused(e) => Found::Refused(e, left),
-        Verdict::Fine => match charge(file, map, format, left) {
-            Told::Refused(e, u) => Found::Refused(e, u),
-            Told::Passed(u) => Found::Picture(format, u),
-        },
-    }
+    check_room(format, max_output, room).map_err(|refusal| refusal.leaving(left))?;
+    let rest = charge(file, map, format, left)?;
+    Ok(Found { format, left: rest })
 }
 
 // Header, directories and profile, then the format.
@@ -85,27 +74,25 @@ fn admit_page(
     limits: Limits,
     room: Room,
     left: usize,
-) -> Found
+) -> Result<Found, Refused>
     ensures { result ≡ admitted_page (seen file.now map.now) page limits room left }
 {
-    match front::read_format(file, map, page, limits, left) {
-        Found::Refused(e, u) => Found::Refused(e, u),
-        Found::Picture(format, u) => {
-            let max_output = limits.max_output;
-            admit_format(file, map, format, max_output, room, u)
-        }
-    }
+    let found = front::read_format(file, map, page, limits, left)?;
+    admit_format(file, map, found.format, limits.max_output, room, found.left)
 }
 
 // The two limits on the whole file, the length of the map, then the page.
-pub fn admit(file: &[u8], map: &[u8], page: usize, limits: Limits, room: Room, left: usize) -> Found
+pub fn admit(
+    file: &[u8],
+    map: &[u8],
+    page: usize,
+    limits: Limits,
+    room: Room,
+    left: usize,
+) -> Result<Found, Refused>
     ensures { result ≡ admitted (seen file.now map.now) (length map.now) page limits room left }
 {
-    match header::check_limits(file.len(), page, limits) {
-        Verdict::Refused(e) => Found::Refused(e, left),
-        Verdict::Fine => match seen::check_map(file, map) {
-            Verdict::Refused(e) => Found::Refused(e, left),
-            Verdict::Fine => admit_page(file, map, page, limits, room, left),
-        },
-    }
+    header::check_limits(file.len(), page, limits).map_err(|refusal| refusal.leaving(left))?;
+    seen::check_map(file, map).map_err(|refusal| refusal.leaving(left))?;
+    admit_page(file, map, page, limits, room, left)
 }

@@ -1,33 +1,25 @@
--- Neither the limits nor the map charge anything, so the page begins with all units.
-use Rattle.admission.proofs.Admitting.{admissions}
+-- The limits and the map come first, and charge nothing.
+use mathlib.Core.Path.{◌∙◌}
+use borrow.Author.Rules.{rules}
+use Rattle.checks.proofs.Rules.{handed_on}
+use Rattle.checks.proofs.Leaving.{passed_on, refused_on}
+use Rattle.seen.specs.Seen.{seen}
+use Rattle.admission.proofs.Admitting.{limits_refused, map_refused, page_admitted}
 use Rattle.admission.proofs.admit.Goals as goal
 
-pub check_limits-requires : goal.check_limits-requires
-check_limits-requires c = search admissions
+pub returns-in_err-map_err : goal.returns-in_err-map_err
+returns-in_err-map_err c =
+    let (e, q, z) = refused_on c.args.left (λ e k. search rules) c.in_err-map_err.ensures.cases in
+    handed_on c.from_residual.ensures.1 (limits_refused (seen c.args.file.now c.args.map.now) _ _ _ _ _ (q ∙ c.check_limits.ensures) z)
 
-pub enum_known-e : goal.enum_known-e
-enum_known-e c = search admissions
+pub returns-in_err-map_err-2 : goal.returns-in_err-map_err-2
+returns-in_err-map_err-2 c =
+    let (e, q, z) = refused_on c.args.left (λ e k. search rules) c.in_err-map_err-2.ensures.cases in
+    handed_on c.from_residual-in_err-map_err-2.ensures.1
+    (map_refused (seen c.args.file.now c.args.map.now) _ _ _ _ _ (passed_on c.in_ok-map_err.ensures.cases ∙ c.check_limits.ensures)
+    (q ∙ c.check_map.ensures) z)
 
-pub enum_told-1 : goal.enum_told-1
-enum_told-1 c = search admissions
-
-pub check_map-requires : goal.check_map-requires
-check_map-requires c = search admissions
-
-pub enum_known-e-in-Refused-check_map : goal.enum_known-e-in-Refused-check_map
-enum_known-e-in-Refused-check_map c = search admissions
-
-pub enum_told-in-Fine-check_map : goal.enum_told-in-Fine-check_map
-enum_told-in-Fine-check_map c = search admissions
-
-pub admit_page-requires : goal.admit_page-requires
-admit_page-requires c = search admissions
-
-pub returns-in-Refused : goal.returns-in-Refused
-returns-in-Refused c = search admissions
-
-pub returns-in-Refused-check_map : goal.returns-in-Refused-check_map
-returns-in-Refused-check_map c = search admissions
-
-pub returns-in-Fine-check_map : goal.returns-in-Fine-check_map
-returns-in-Fine-check_map c = search admissions
+pub returns : goal.returns
+returns c =
+    page_admitted (seen c.args.file.now c.args.map.now) _ _ _ _ _ (passed_on c.in_ok-map_err.ensures.cases ∙ c.check_limits.ensures)
+    (passed_on c.in_ok-map_err-2.ensures.cases ∙ c.check_map.ensures) c.admit_page.ensures

@@ -1,30 +1,20 @@
--- The buffers charge nothing, so the charge begins with all units.
-use Rattle.admission.proofs.Admitting.{formats}
+-- The buffers, which charge nothing, then the charge.
+use mathlib.Core.Path.{◌∙◌}
+use borrow.Author.Rules.{rules}
+use Rattle.checks.proofs.Rules.{handed_on}
+use Rattle.checks.proofs.Leaving.{passed_on, refused_on}
+use Rattle.admission.proofs.Admitting.{room_refused, charge_refused, charge_passed}
 use Rattle.admission.proofs.admit_format.Goals as goal
 
-pub check_room-requires : goal.check_room-requires
-check_room-requires c = search formats
+pub returns-in_err-map_err : goal.returns-in_err-map_err
+returns-in_err-map_err c =
+    let (e, q, z) = refused_on c.args.left (λ e k. search rules) c.in_err-map_err.ensures.cases in
+    handed_on c.from_residual.ensures.1 (room_refused _ _ _ _ _ (q ∙ c.check_room.ensures) z)
 
-pub enum_known-e : goal.enum_known-e
-enum_known-e c = search formats
+pub returns-in_err-rest : goal.returns-in_err-rest
+returns-in_err-rest c =
+    handed_on c.from_residual-in_err-rest.ensures.1
+    (charge_refused _ _ _ _ _ (passed_on c.in_ok-map_err.ensures.cases ∙ c.check_room.ensures) c.in_err-rest.ensures)
 
-pub enum_told-1 : goal.enum_told-1
-enum_told-1 c = search formats
-
-pub charge-requires : goal.charge-requires
-charge-requires c = search formats
-
-pub enum_known-e-in-Refused-charge : goal.enum_known-e-in-Refused-charge
-enum_known-e-in-Refused-charge c = search formats
-
-pub enum_known-u : goal.enum_known-u
-enum_known-u c = search formats
-
-pub returns-in-Refused : goal.returns-in-Refused
-returns-in-Refused c = search formats
-
-pub returns-in-Refused-charge : goal.returns-in-Refused-charge
-returns-in-Refused-charge c = search formats
-
-pub returns-in-Passed : goal.returns-in-Passed
-returns-in-Passed c = search formats
+pub returns : goal.returns
+returns c = charge_passed _ _ _ _ _ (passed_on c.in_ok-map_err.ensures.cases ∙ c.check_room.ensures) c.in_ok-rest.ensures

@@ -1,21 +1,10 @@
--- A sum that is over fails the first check; one that fits is what is paid.
-use Rattle.admission.proofs.Admitting.{charges}
+-- A sum that is over is refused; else it is the one charge.
+use Rattle.checks.proofs.Rules.{handed_on}
+use Rattle.admission.proofs.Admitting.{work_over, work_charged}
 use Rattle.admission.proofs.charge.Goals as goal
 
-pub charge_all-requires : goal.charge_all-requires
-charge_all-requires c = search charges
+pub returns-in_err-work : goal.returns-in_err-work
+returns-in_err-work c = handed_on c.from_residual.ensures.1 (work_over _ _ _ c.charge_all.ensures c.leaving.ensures c.in_err-work.ensures.value)
 
-pub enum_told-1 : goal.enum_told-1
-enum_told-1 c = search charges
-
-pub enum_known-work : goal.enum_known-work
-enum_known-work c = search charges
-
-pub spend-requires : goal.spend-requires
-spend-requires c = search charges
-
-pub returns-in-Over : goal.returns-in-Over
-returns-in-Over c = search charges
-
-pub returns-in-Fits : goal.returns-in-Fits
-returns-in-Fits c = search charges
+pub returns : goal.returns
+returns c = work_charged _ _ _ c.charge_all.ensures c.in_ok-work.ensures.value c.spend.ensures

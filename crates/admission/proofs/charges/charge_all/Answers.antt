@@ -1,42 +1,20 @@
 -- What is summed so far is the whole less what is still to come, so where a part is over the whole is.
-use Rattle.admission.proofs.Charging.{charging}
+use native.Mathlib.Omega.{arith}
+use Rattle.admission.proofs.Charging.{charging_none, charge_over, sum_over, charging_more, charging_all}
 use Rattle.admission.proofs.charges.charge_all.Goals as goal
 
 pub loop-k-init : goal.loop-k-init
-loop-k-init c = search charging
+loop-k-init c = charging_none _ _
 
-pub charge_of-requires : goal.charge_of-requires
-charge_of-requires c = search charging
+pub returns-in_err-charge : goal.returns-in_err-charge
+returns-in_err-charge c = rw c.from_residual.ensures (charge_over _ _ _ _ c.loop-k.invariant (omega arith) c.in_err-charge.ensures)
 
-pub enum_known-charge : goal.enum_known-charge
-enum_known-charge c = search charging
-
-pub enum_told-1 : goal.enum_told-1
-enum_told-1 c = search charging
-
-pub returns-in_default : goal.returns-in_default
-returns-in_default c = search charging
-
-pub sum-requires : goal.sum-requires
-sum-requires c = search charging
-
-pub enum_known-more : goal.enum_known-more
-enum_known-more c = search charging
-
-pub enum_told-in_default-sum : goal.enum_told-in_default-sum
-enum_told-in_default-sum c = search charging
-
-pub returns-in_default-sum : goal.returns-in_default-sum
-returns-in_default-sum c = search charging
-
-pub overflow_add-k : goal.overflow_add-k
-overflow_add-k c = search charging
-
-pub loop-k-smaller : goal.loop-k-smaller
-loop-k-smaller c = search charging
+pub returns-in_err-total : goal.returns-in_err-total
+returns-in_err-total c =
+    rw c.from_residual-in_err-total.ensures (sum_over _ _ _ _ c.loop-k.invariant (omega arith) c.in_ok-charge.ensures c.in_err-total.ensures)
 
 pub loop-k-preserved : goal.loop-k-preserved
-loop-k-preserved c = search charging
+loop-k-preserved c = charging_more _ _ _ _ c.loop-k.invariant (omega arith) c.in_ok-charge.ensures c.in_ok-total.ensures
 
 pub returns : goal.returns
-returns c = search charging
+returns c = charging_all _ _ _ _ c.loop-k.invariant (omega arith)
