@@ -9,31 +9,37 @@ ghost use Rattle.paint.specs.Paint.{pixels_of};
 use picture::Format;
 
 // A segment's planes as pixels in the picture: what stands over the picture's edge goes nowhere.
+#[tactic(auto, using(crate::proofs::Parts::parts))]
 pub fn paint(planes: &[u8], format: Format, k: usize, out: &mut [u8])
     requires { Valid format × (k < format.segments) × (needed_of format k ≤ length planes.now) × (format.output ≤ length out.old) }
     ensures { out.new ≡ painted format k (pixels_of format k planes.now) out.old }
 {
-    let mono = format.mono;
-    let v = picture::visible_of(format, k);
+    let visible = picture::visible_of(format, k);
     luv::scatter(
-        mono,
+        format.mono,
         planes,
         format.block_width,
-        v.columns,
-        v.rows,
-        v.first,
-        head::bytes_of(mono) * format.width,
+        visible.columns,
+        visible.rows,
+        visible.first,
+        head::bytes_of(format.mono) * format.width,
         out,
     );
 }
 
 // A segment that shows nothing: a pixel's zero bytes for each of its pixels in the picture, and nothing else touched.
+#[tactic(auto, using(crate::proofs::Parts::parts))]
 pub fn blank(format: Format, k: usize, out: &mut [u8])
     requires { Valid format × (k < format.segments) × (format.output ≤ length out.old) }
     ensures { out.new ≡ painted format k [] out.old }
 {
-    let mono = format.mono;
-    let size = head::bytes_of(mono);
-    let v = picture::visible_of(format, k);
-    clearing::clear_rows(size * v.columns, v.rows, v.first, size * format.width, out);
+    let size = head::bytes_of(format.mono);
+    let visible = picture::visible_of(format, k);
+    clearing::clear_rows(
+        size * visible.columns,
+        visible.rows,
+        visible.first,
+        size * format.width,
+        out,
+    );
 }
