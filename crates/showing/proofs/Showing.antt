@@ -1,12 +1,12 @@
 -- A segment that is shown: the part of scratch that its packets fill has its planes, whose pixels it paints.
-use Prim.Native.Nat.{ℕ, ◌+◌, ◌-◌, ◌*◌, ◌/◌, ◌%◌, ◌<◌, ◌≤◌}
+use Prim.Native.Nat.{ℕ, ◌+◌, ◌-◌, ◌*◌, ◌/◌, ◌%◌, ◌<◌}
 use mathlib.Core.Path.{◌≡◌, sym, ◌∙◌}
 use mathlib.Core.List.{List}
 use native.Mathlib.Omega.{arith}
-use native.Mathlib.Nat.{add-sub_cancel_left, sub-zero, div-add-mod', mod-lt}
+use native.Mathlib.Nat.{add-sub_cancel_left, div-add-mod', mod-lt}
 use lib.Arith.{digits_div}
 use lib.ListN.{length, take, drop, get_or}
-use lib.Seq.{take_at, length-take-le}
+use lib.Seq.{take_at}
 use borrow.Author.Rules.{rules}
 use Rattle.lists.specs.Lists.{overlay}
 use Rattle.head.specs.Heads.{planes_of, bytes_of}
@@ -48,25 +48,19 @@ module _
   pub part_accepted : Accepted (take (offset + count - offset) (drop offset file)) needed
   part_accepted = record { stride = f.block_width; holds = rw (add-sub_cancel_left, is-needed) ok.packets }
 
-  pub planes_enough : (planes : List ℕ) → needed_of f k ≤ length planes → needed ≤ length planes
-  planes_enough planes h = rw is-needed h
-
-  pub planes_suffice : (planes : List ℕ) → needed_of f k ≤ length planes → needed_of f k ≤ length (take (needed - 0) (drop 0 planes))
-  planes_suffice planes h = rw (sub-zero needed, is-needed) (omega (arith, length-take-le (needed_of f k) planes h))
-
   module _ (old new : List ℕ) (wrote : new ≡ overlay (expand (take (offset + count - offset) (drop offset file)) 0) old) where
     pub planes_wrote : new ≡ overlay (planes_in (part file offset count)) old
     planes_wrote = rw add-sub_cancel_left at wrote
 
-    planes_are : take (needed - 0) (drop 0 new) ≡ planes_in (part file offset count)
+    planes_are : take needed new ≡ planes_in (part file offset count)
     unfolding overlay
-    planes_are = rw (planes_wrote, sub-zero needed) (take_at _ _ needed (fill_length f k (part file offset count) ok.packets ∙ sym is-needed))
+    planes_are = rw planes_wrote (take_at _ _ needed (fill_length f k (part file offset count) ok.packets ∙ sym is-needed))
 
-    pub shows : (before after : List ℕ) → after ≡ painted f k (pixels_of f k (take (needed - 0) (drop 0 new))) before
+    pub shows : (before after : List ℕ) → after ≡ painted f k (pixels_of f k (take needed new)) before
         → after ≡ painted f k (shown_by f k (part file offset count)) before
     shows before after q = rw planes_are at q
 
-pub ruleset showing = (part_accepted, planes_enough, planes_suffice, planes_wrote, shows, rules)
+pub ruleset showing = (part_accepted, planes_wrote, shows, rules)
 
 -- a segment that is located and whose packets are accepted can be shown, and what is written is what is seen of it
 module _ (file map : List ℕ) (f : Format) (k offset count : ℕ) (here : Located (seen file map) f k offset count) where
