@@ -11,15 +11,6 @@ ghost use Rattle.reading.specs.Inner.{planes_read, SegmentReadable};
 use picture::Format;
 use quality::Quality;
 
-// What stands in the quality buffer for a segment.
-pub const GOOD: u8 = 1;
-
-pub const MISSING: u8 = 2;
-
-pub const OUTSIDE: u8 = 3;
-
-pub const REJECTED: u8 = 4;
-
 // The number of a segment, whose pixels are put into the picture where it is good and made zero where it is not.
 pub fn read_segment(
     file: &[u8],
@@ -34,22 +25,11 @@ pub fn read_segment(
     ensures planes { scratch.new ≡ overlay (planes_read (seen file.now map.now) format k) scratch.old }
     ensures picture { output.new ≡ painted format k (shows_of (seen file.now map.now) format k) output.old }
 {
-    match quality::quality_of(file, map, format, k) {
-        Quality::Good(offset, count) => {
-            showing::show_segment(file, format, k, offset, count, scratch, output);
-            GOOD
-        }
-        Quality::Missing => {
-            paint::blank(format, k, output);
-            MISSING
-        }
-        Quality::Outside => {
-            paint::blank(format, k, output);
-            OUTSIDE
-        }
-        Quality::Rejected => {
-            paint::blank(format, k, output);
-            REJECTED
-        }
+    let quality = quality::quality_of(file, map, format, k);
+    let code = u8::from(quality);
+    match quality {
+        Quality::Good(stored) => showing::show_segment(file, format, k, stored, scratch, output),
+        Quality::Missing | Quality::Outside | Quality::Rejected => paint::blank(format, k, output),
     }
+    code
 }
