@@ -12,7 +12,6 @@ use Rattle.front.specs.declared.Found.{Found}
 use Rattle.checks.proofs.Rules.{checks_passed}
 use Rattle.front.proofs.Accepted.{front_readable}
 use Rattle.picture.specs.Inner.{Readable}
-use Rattle.picture.specs.declared.Format.{Format}
 use Rattle.admission.specs.Admission.{buffer_checks, patchy_checks, admitted}
 use Rattle.admission.specs.Inner.{room_checks, charge_checks, admit_checks, admit_page_checks}
 use Rattle.admission.specs.declared.Room.{Room}

@@ -69,9 +69,9 @@ module _ (v : Seen) (f : Format) (left : ℕ) {s : Option ℕ} (es : s ≡ withi
   pub work_over : {e r : Refused} → e ≡ leaving limit left → Err r ≡ ok_or s e → Err r ≡ run (charge_checks v f) left
   work_over {e} z q = let o = or_none s e q in rw (o.1, z) (over_limit o.0)
 
-  pub work_charged : {r : Told} {n : ℕ} {e : Refused} → Ok n ≡ ok_or s e → r ≡ run (pay n ∷ []) left → r ≡ run (charge_checks v f) left
+  pub work_charged : {r : Told} {n : ℕ} (e : Refused) → Ok n ≡ ok_or s e → r ≡ run (pay n ∷ []) left → r ≡ run (charge_checks v f) left
   unfolding charge_checks
-  work_charged {n = n} {e = e} q k =
+  work_charged {n = n} e q k =
       let t = fits_is (picture_charge v f) n es (or_some s e q) in
       must_yes _ _ _ _ (le-leb _ _ t.small) (k ∙ ap (λ (x : ℕ). run (pay x ∷ []) left) t.is)
 

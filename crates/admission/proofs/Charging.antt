@@ -4,14 +4,13 @@ use mathlib.Core.Path.{◌≡◌, refl, ◌∙◌}
 use native.Mathlib.Omega.{arith}
 use native.Mathlib.Nat.{sub-zero}
 use native.Mathlib.Numerals.{add-one}
-use borrow.Author.Rules.{rules}
 use Rattle.checks.specs.Sizes.{within, most64}
 use Rattle.checks.proofs.Sizes.{fits, fits_is, over_part}
 use Rattle.seen.specs.Seen.{Seen}
 use Rattle.picture.specs.declared.Format.{Format}
 use Rattle.quality.specs.Quality.{segment_charge}
 use Rattle.admission.specs.Admission.{charges_of, picture_charge}
-use Rattle.std.specs.Prelude.{Option, Some, None}
+use Rattle.std.specs.Prelude.{Some, None}
 
 -- k segments are charged
 pub record Charging (v : Seen) (f : Format) (k total : ℕ) : Type 0 where

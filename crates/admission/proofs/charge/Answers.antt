@@ -7,4 +7,4 @@ pub returns-in_err-work : goal.returns-in_err-work
 returns-in_err-work c = handed_on c.from_residual.ensures.1 (work_over _ _ _ c.charge_all.ensures c.leaving.ensures c.in_err-work.ensures.value)
 
 pub returns : goal.returns
-returns c = work_charged _ _ _ c.charge_all.ensures c.in_ok-work.ensures.value c.spend.ensures
+returns c = work_charged _ _ _ c.charge_all.ensures c.leaving.result c.in_ok-work.ensures.value c.spend.ensures
