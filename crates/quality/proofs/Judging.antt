@@ -95,4 +95,4 @@ module _ (file map : List ℕ) (f : Format) (k : ℕ) {s : Stored} (q : Ok s ≡
   pub is_rejected : {e : Refusal} → Err e ≡ verdict (fill_checks f k (part file s.offset s.count)) → Rejected ≡ quality_is (seen file map) f k
   is_rejected e = by_packets e
 
-pub ruleset judging = (is_outside, is_missing, is_in_file, is_good, is_rejected, one_unit, whole_fee, rules)
+pub ruleset judging = (is_in_file, is_good, is_rejected, one_unit, rules)

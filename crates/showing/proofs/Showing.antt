@@ -60,7 +60,7 @@ module _
         → after ≡ painted f k (shown_by f k (part file offset count)) before
     shows before after q = rw planes_are at q
 
-pub ruleset showing = (part_accepted, planes_wrote, shows, rules)
+pub ruleset showing = (part_accepted, planes_wrote, rules)
 
 -- a segment that is located and whose packets are accepted can be shown, and what is written is what is seen of it
 module _ (file map : List ℕ) (f : Format) (k offset count : ℕ) (here : Located (seen file map) f k offset count) where
