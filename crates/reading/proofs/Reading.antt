@@ -5,6 +5,7 @@ use mathlib.Core.Bool.{Bool, true, false}
 use mathlib.Core.Logic.{◌⊎◌, inl, inr}
 use mathlib.Core.List.{List, []}
 use native.Mathlib.Omega.{arith}
+use borrow.Author.Rules.{rules}
 use lib.Dec.{eqb}
 use lib.ListN.{length}
 use Rattle.lists.specs.Lists.{pick, overlay}
@@ -102,6 +103,8 @@ module _ (file map : List ℕ) (f : Format) (k : ℕ) {s : Stored} (q : Good s �
   pub good_picture : (old new : List ℕ) → new ≡ painted f k (shown_by f k (part file s.offset s.count)) old
       → new ≡ painted f k (shows_of (seen file map) f k) old
   good_picture old new e = rw (← q) (shown_part file map f k s.offset s.count here old new e)
+
+pub ruleset reads = (number_is, blank_planes, blank_picture, rules)
 
 -- what is written into scratch is no more than the planes: nothing where the segment is not good
 pub planes_short : (v : Seen) (f : Format) (k : ℕ) → length (planes_read v f k) ≤ needed_of f k

@@ -12,6 +12,7 @@ use picture::Format;
 use quality::Quality;
 
 // The number of a segment, whose pixels are put into the picture where it is good and made zero where it is not.
+#[tactic(auto, using(crate::proofs::Reading::reads))]
 pub fn read_segment(
     file: &[u8],
     map: &[u8],
