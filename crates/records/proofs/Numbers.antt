@@ -7,12 +7,12 @@ use native.Mathlib.Omega.{arith}
 use lib.ListN.{length}
 use borrow.Author.Rules.{rules}
 use Rattle.lists.specs.Lists.{pick}
+use Rattle.checks.specs.Numbers.{no_refusal, truncated}
 use Rattle.checks.specs.Checks.{verdict}
-use Rattle.checks.specs.declared.Verdict.{Verdict}
-use Rattle.checks.specs.declared.Verdict.TheVariants as VerdictIs
-use Rattle.checks.proofs.Exact.{refused_fine}
+use Rattle.checks.specs.declared.Refusal.{Refusal}
+use Rattle.std.specs.Prelude.{Ok, Err}
 use Rattle.seen.specs.Seen.{Seen, seen, inside, there, There, four}
-use Rattle.seen.proofs.Words.{there_part, there_of}
+use Rattle.seen.proofs.Words.{there_part}
 use Rattle.seen.proofs.Alike.{whole_came}
 use Rattle.records.specs.Records.{eight, number_at}
 
@@ -27,26 +27,25 @@ module _ (v : Seen) (at : ℕ) where
   unfolding eight
   eight_read a b ea eb = rw (ea, eb)
 
-module _ (file : List ℕ) (at : ℕ) {r : Verdict} (er : r ≡ verdict (there (seen file []) at 8)) where
-  told : (b : Bool) → inside (length file) at 8 ≡ b → r ≡ pick b VerdictIs.Fine (VerdictIs.Refused 1)
-  unfolding verdict
-  told true e = er ∙ rw (e, whole_came file at 8)
-  told false e = er ∙ rw e
-
-  pub none_there : (e : ℕ) → r ≡ VerdictIs.Refused e → 0 ≡ number_at (seen file []) at
-  unfolding number_at
-  none_there e q = by (inside (length file) at 8) refl
+-- the test that the bytes are there passes exactly where they are inside: of a whole file all came
+module _ (file : List ℕ) (at : ℕ) where
+  pub none_there : {e : Refusal} → Err e ≡ verdict (there (seen file []) at 8) → 0 ≡ number_at (seen file []) at
+  unfolding verdict number_at
+  none_there {e} q = by (inside (length file) at 8) refl
     where
       by : (b : Bool) → inside (length file) at 8 ≡ b → 0 ≡ pick (inside (length file) at 8) (eight (seen file []) at) 0
-      by true t = absurd (refused_fine e (sym q ∙ told true t))
+      by true t = let g : Err e ≡ no_refusal = q ∙ rw (t, whole_came file at 8) in absurd cc
       by false t = rw t
 
-  pub number_read : {n : ℕ} → r ≡ VerdictIs.Fine → n ≡ eight (seen file []) at → n ≡ number_at (seen file []) at
-  unfolding number_at
-  number_read {n} q e = by (inside (length file) at 8) refl
+  pub number_read : {y : Unit {0}} {n : ℕ} → Ok y ≡ verdict (there (seen file []) at 8) → n ≡ eight (seen file []) at
+      → n ≡ number_at (seen file []) at
+  unfolding verdict number_at
+  number_read {y} {n} q e = by (inside (length file) at 8) refl
     where
       by : (b : Bool) → inside (length file) at 8 ≡ b → n ≡ pick (inside (length file) at 8) (eight (seen file []) at) 0
       by true t = rw t e
-      by false t = absurd (refused_fine 1 (sym (told false t) ∙ q))
+      by false t = let g : Ok y ≡ Err truncated = q ∙ rw t in absurd cc
 
-pub ruleset numbers = (low_there, high_there, eight_read, none_there, number_read, there_of, rules)
+pub ruleset halves = (low_there, high_there, rules)
+
+pub ruleset numbers = (eight_read, none_there, number_read, rules)

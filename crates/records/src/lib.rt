@@ -6,8 +6,6 @@ ghost use Rattle.lists.specs.Lists.{lesser};
 ghost use Rattle.seen.specs.Seen.{seen, There};
 ghost use Rattle.records.specs.Records.{eight, number_at};
 
-use checks::Verdict;
-
 // A checksum of a whole buffer.
 pub mod crc;
 
@@ -26,7 +24,7 @@ pub fn least(a: usize, b: usize) -> usize
 }
 
 // In two halves, which `words` reads: its clause speaks of what is seen of a file, as the definition does.
-#[tactic(auto, unfolding(crate::specs::Records::eight))]
+#[tactic(auto, using(crate::proofs::Numbers::numbers))]
 fn read(file: &[u8], at: usize) -> usize
     requires { There (seen file.now []) at 8 }
     ensures { result ≡ eight (seen file.now []) at }
@@ -35,11 +33,12 @@ fn read(file: &[u8], at: usize) -> usize
 }
 
 // The number at a place, or 0 where the file ends before it does.
+#[tactic(auto, using(crate::proofs::Numbers::numbers))]
 pub fn num(file: &[u8], at: usize) -> usize
     ensures { result ≡ number_at (seen file.now []) at }
 {
     match seen::need(file, b"", at, 8) {
-        Verdict::Refused(_) => 0,
-        Verdict::Fine => read(file, at),
+        Ok(()) => read(file, at),
+        Err(_) => 0,
     }
 }
