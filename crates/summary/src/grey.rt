@@ -3,8 +3,6 @@ ghost use Rattle.std.specs.Prelude.{◌≡◌, ◌+◌, ◌*◌, ◌≤◌, leng
 ghost use Rattle.lists.specs.Lists.{lesser, tabulate};
 ghost use Rattle.summary.specs.Grey.{grey_of, light_at, grey_at, whole_pixels};
 
-use checks::Size;
-
 // A picture as its bytes, so many of them a pixel, and its sides.
 #[derive(Clone, Copy)]
 pub struct Picture<'a> {
@@ -51,11 +49,9 @@ pub fn put_grey(picture: &Picture, grey: &mut [u8])
 }
 
 // How many pixels there are, and no more than there is room for.
+#[tactic(auto, using(crate::proofs::Greys::pixels_shown))]
 pub fn pixels_of(width: usize, height: usize, most: usize) -> usize
     ensures { (result ≡ lesser (width * height) most) × (result ≤ most) }
 {
-    match checks::product(width, height) {
-        Size::Fits(n) => records::least(n, most),
-        Size::Over => most,
-    }
+    records::least(checks::product(width, height).unwrap_or(most), most)
 }
