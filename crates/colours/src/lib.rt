@@ -8,7 +8,6 @@ ghost use Rattle.summary.specs.Grey.{whole_pixels};
 ghost use Rattle.colours.specs.Colours.{tone_of, colour_of, pixel_segment, colour_at, coloured_in, colours_in};
 ghost use Rattle.colours.specs.Inner.{Gridded};
 
-use checks::Size;
 use summary::grey;
 use summary::grey::Picture;
 
@@ -37,7 +36,7 @@ impl Grid {
         ensures all { result ≡ coloured_in self.now.width height self.now.block_width self.now.block_height most }
         ensures few { result ≤ most }
     {
-        let Size::Fits(n) = checks::product(self.width, height) else {
+        let Some(n) = checks::product(self.width, height) else {
             return 0;
         };
         if most < n { 0 } else { n }
