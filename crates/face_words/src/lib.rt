@@ -2,18 +2,18 @@
 #![tactic(auto)]
 
 ghost use Rattle.std.specs.Prelude.{◌≡◌};
-ghost use Rattle.checks.specs.Numbers.{verdict_number};
+ghost use Rattle.checks.specs.Numbers.{number_of, verdict_number};
 ghost use Rattle.face_words.specs.Words.{limits_of, words_of, same_words};
 
-use checks::Verdict;
+use checks::Refusal;
 use handle::Handle;
 use header::Limits;
 
-// A byte as a word.
-pub fn wide(x: u8) -> usize
-    ensures { result ≡ x }
+// The number of a refusal.
+pub fn word_of(refusal: Refusal) -> usize
+    ensures { result ≡ number_of refusal }
 {
-    x as usize
+    usize::from(u8::from(refusal))
 }
 
 // The six limits, in the order of rule 1.6.
@@ -28,22 +28,22 @@ pub fn limits_of(
     ensures { result ≡ limits_of max_input max_output max_dimension max_directories max_tags max_segments }
 {
     Limits {
-        max_input: max_input,
-        max_output: max_output,
-        max_dimension: max_dimension,
-        max_directories: max_directories,
-        max_tags: max_tags,
-        max_segments: max_segments,
+        max_input,
+        max_output,
+        max_dimension,
+        max_directories,
+        max_tags,
+        max_segments,
     }
 }
 
 // The number of a call that charges nothing.
-pub fn number_of(answer: Verdict) -> usize
+pub fn number_of(answer: Result<(), Refusal>) -> usize
     ensures { result ≡ verdict_number answer }
 {
     match answer {
-        Verdict::Fine => 0,
-        Verdict::Refused(e) => wide(e),
+        Ok(()) => 0,
+        Err(refusal) => word_of(refusal),
     }
 }
 
@@ -51,43 +51,31 @@ pub fn number_of(answer: Verdict) -> usize
 pub fn words_of(handle: Handle) -> [usize; 17]
     ensures { result ≡ words_of handle }
 {
-    let format = handle.format;
-    let mono = format.mono;
-    let channels = head::channels_of(mono);
     [
-        format.width,
-        format.height,
-        channels,
+        handle.format.width,
+        handle.format.height,
+        head::channels_of(handle.format.mono),
         16,
         16,
         1,
         34676,
         handle.page,
-        format.entries,
+        handle.format.entries,
         0,
         0,
-        format.output,
+        handle.format.output,
         handle.scratch,
         handle.work,
-        format.block_width,
-        format.block_height,
-        format.segments,
+        handle.format.block_width,
+        handle.format.block_height,
+        handle.format.segments,
     ]
 }
 
 // Whether two lists of words are equal.
+#[tactic(auto, using(crate::proofs::Comparing::word_by_word))]
 pub fn same_words(a: &[usize], b: &[usize]) -> bool
     ensures { result ≡ same_words a.now b.now }
 {
-    if a.len() != b.len() {
-        return false;
-    }
-    let mut i: usize = 0;
-    while i < a.len() {
-        if a[i] != b[i] {
-            return false;
-        }
-        i += 1;
-    }
-    true
+    a == b
 }
