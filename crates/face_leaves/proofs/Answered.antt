@@ -1,27 +1,25 @@
 -- The answers of work limit and predictors as numbers.
 use Prim.Native.Nat.{ℕ}
-use mathlib.Core.Path.{◌≡◌, sym, ap, ◌∙◌}
+use mathlib.Core.Path.{◌≡◌, ap, ◌∙◌}
 use mathlib.Core.Bool.{Bool}
 use mathlib.Core.List.{List}
 use borrow.Author.Rules.{rules}
-use Rattle.checks.specs.Numbers.{limit, verdict_number}
+use Rattle.checks.specs.Numbers.{limit, number_of, verdict_number, Verdict}
 use Rattle.checks.specs.Buffers.{afterwards}
 use Rattle.checks.specs.Sizes.{within, size_number, size_or}
-use Rattle.checks.specs.declared.Size.{Size}
-use Rattle.checks.specs.declared.Size.TheVariants as SizeIs
-use Rattle.checks.specs.declared.Verdict.{Verdict}
 use Rattle.header.specs.declared.Limits.{Limits}
 use Rattle.work_limit.specs.WorkLimit.{work_bound}
 use Rattle.float64.specs.Float64.{samples}
 use Rattle.native_fp.specs.NativeFp.{summed, gathered}
 use Rattle.face_leaves.specs.Leaves.{verdict64, verdict3, WorkLimit, Predictor64, Predictor3}
+use Rattle.std.specs.Prelude.{Option, Some, None}
 
-module _ (page : ℕ) (l : Limits) (old : ℕ) {r : Size} (found : r ≡ within (work_bound page l)) where
-  pub over : (n : ℕ) → r ≡ SizeIs.Over → n ≡ limit → WorkLimit page l old n old
-  over n q en = record { number_is = en ∙ ap size_number (sym q ∙ found); limit_is = ap (λ (s : Size). size_or s old) (sym q ∙ found) }
+module _ (page : ℕ) (l : Limits) (old : ℕ) where
+  pub over : (n : ℕ) → None ≡ within (work_bound page l) → n ≡ number_of limit → WorkLimit page l old n old
+  over n q en = record { number_is = en ∙ ap size_number q; limit_is = ap (λ (s : Option ℕ). size_or s old) q }
 
-  pub fits : (n : ℕ) → r ≡ SizeIs.Fits n → WorkLimit page l old 0 n
-  fits n q = record { number_is = ap size_number (sym q ∙ found); limit_is = ap (λ (s : Size). size_or s old) (sym q ∙ found) }
+  pub fits : (n : ℕ) → Some n ≡ within (work_bound page l) → WorkLimit page l old 0 n
+  fits n q = record { number_is = ap size_number q; limit_is = ap (λ (s : Option ℕ). size_or s old) q }
 
 pub ruleset bounding = (over, fits, rules)
 

@@ -1,10 +1,9 @@
 -- The calls of the C face that read no file: what each answers, and what it leaves in what it was lent.
 use Rattle.std.specs.Prelude.{ℕ, ◌≡◌, Bool, List, length}
 use Rattle.checks.specs.Checks.{verdict}
-use Rattle.checks.specs.Numbers.{verdict_number}
+use Rattle.checks.specs.Numbers.{verdict_number, Verdict}
 use Rattle.checks.specs.Sizes.{within, size_number, size_or}
 use Rattle.checks.specs.Buffers.{afterwards}
-use Rattle.checks.specs.declared.Verdict.{Verdict}
 use Rattle.header.specs.declared.Limits.{Limits}
 use Rattle.work_limit.specs.WorkLimit.{work_bound}
 use Rattle.float64.specs.Float64.{checks64, samples}

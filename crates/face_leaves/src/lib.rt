@@ -1,25 +1,28 @@
-// The calls of the C face that read no file, with numbers for their answers: the bound on inspection's charge and both predictors.
+// The calls of the C face that read no file: the bound on inspection's charge and both predictors. They answer with numbers and take their
+// arguments one by one, as C has them.
 #![tactic(auto)]
 
 ghost use Rattle.face_leaves.specs.Leaves.{WorkLimit, Predictor64, Predictor3};
 
-use checks::{LIMIT, Size};
+use checks::Refusal;
 use header::Limits;
 
 // Upstream's bound on what inspection charges: above 2^64-1 it is 4.
+#[tactic(auto, using(crate::proofs::Answered::bounding))]
 pub fn bound(page: usize, limits: Limits, limit: &mut usize) -> usize
     ensures { WorkLimit page limits limit.old result limit.new }
 {
     match work_limit::logluv_inspection_work_limit(page, limits) {
-        Size::Over => face_words::wide(LIMIT),
-        Size::Fits(n) => {
-            *limit = n;
+        Some(bound) => {
+            *limit = bound;
             0
         }
+        None => face_words::word_of(Refusal::Limit),
     }
 }
 
 // The 64-bit integer predictor.
+#[tactic(auto, using(crate::proofs::Answered::predicting))]
 pub fn predictor64(
     raw: &[u8],
     width: usize,
@@ -46,6 +49,7 @@ pub fn predictor64(
 }
 
 // The floating predictor.
+#[tactic(auto, using(crate::proofs::Answered::predicting))]
 pub fn predictor3(
     raw: &[u8],
     row: usize,
