@@ -1,11 +1,10 @@
 -- The answers of the receiver as numbers, and its state as words.
 use Prim.Native.Nat.{ℕ}
-use mathlib.Core.Path.{◌≡◌, refl, sym, ap, ◌∙◌}
+use mathlib.Core.Path.{◌≡◌, ap, ◌∙◌}
 use mathlib.Core.Bool.{true, false}
 use mathlib.Core.List.{List, [], ◌∷◌}
 use borrow.Author.Rules.{rules}
-use Rattle.checks.specs.Numbers.{verdict_number}
-use Rattle.checks.specs.declared.Verdict.{Verdict}
+use Rattle.checks.specs.Numbers.{verdict_number, Verdict}
 use Rattle.trace.specs.Trace.{Message}
 use Rattle.receiver.specs.Receiver.{Reception, lent, Answers, Replays}
 use Rattle.receiver.specs.declared.Receiver.{Receiver}

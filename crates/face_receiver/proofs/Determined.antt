@@ -2,9 +2,9 @@
 use Prim.Native.Nat.{ℕ}
 use mathlib.Core.Path.{◌≡◌, sym, ◌∙◌}
 use mathlib.Core.List.{List}
-use Rattle.checks.specs.declared.Verdict.{Verdict}
 use Rattle.receiver.specs.Receiver.{Reception}
 use Rattle.face_receiver.specs.Reception.{ReceiverCall}
+use Rattle.checks.specs.Numbers.{Verdict}
 
 module _ (words : List ℕ) (answer : Verdict) (after : Reception) where
   pub receiver_call_one : {n m : ℕ} {x x' y y' z z' : List ℕ} → ReceiverCall words answer after n x y z → ReceiverCall words answer after m x' y' z'

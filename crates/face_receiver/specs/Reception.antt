@@ -1,8 +1,7 @@
 -- The calls of the C face over a receiver: its state as words, what each call answers, and what it leaves in what it was lent.
 use Rattle.std.specs.Prelude.{ℕ, ◌≡◌, List, [], ◌∷◌, get_or, eqb}
 use Rattle.lists.specs.Lists.{pick}
-use Rattle.checks.specs.Numbers.{verdict_number}
-use Rattle.checks.specs.declared.Verdict.{Verdict}
+use Rattle.checks.specs.Numbers.{verdict_number, Verdict}
 use Rattle.trace.specs.Trace.{Message, trace_of}
 use Rattle.receiver.specs.Receiver.{Reception, lent, answer_to, received, received_all}
 use Rattle.receiver.specs.declared.Receiver.{Receiver}
