@@ -11,7 +11,8 @@ use header::Limits;
 
 // What an image carries besides the file: the number of the inspection's answer, the limits that it was made under, and the handle.
 // After a refusal all but the number is 0, and the head is that for colour. Its methods are upstream's getters.
-#[derive(Clone, Copy)]
+// No Result: rule 7.7 asks for these 0s, and decode takes an image with any number, of which `plain_image/Image.image_checks` speaks.
+#[derive(Clone, Copy, Debug, PartialEq, Eq)]
 pub struct Info {
     pub number: u8,
     pub limits: Limits,
@@ -19,7 +20,7 @@ pub struct Info {
 }
 
 // Pictures of this profile have no alpha.
-#[derive(Clone, Copy)]
+#[derive(Clone, Copy, Debug, PartialEq, Eq)]
 pub enum AlphaMode {
     None,
 }
@@ -28,27 +29,20 @@ impl Info {
     pub fn width(self) -> usize
         ensures { result ≡ self.handle.format.width }
     {
-        let handle = self.handle;
-        let format = handle.format;
-        format.width
+        self.handle.format.width
     }
 
     pub fn height(self) -> usize
         ensures { result ≡ self.handle.format.height }
     {
-        let handle = self.handle;
-        let format = handle.format;
-        format.height
+        self.handle.format.height
     }
 
     // Samples of a pixel: L, u, v, or L alone.
     pub fn channels(self) -> usize
         ensures { result ≡ channels_of self.handle.format.mono }
     {
-        let handle = self.handle;
-        let format = handle.format;
-        let mono = format.mono;
-        head::channels_of(mono)
+        head::channels_of(self.handle.format.mono)
     }
 
     pub fn bits_per_sample(self) -> usize
@@ -80,17 +74,14 @@ impl Info {
     pub fn page_index(self) -> usize
         ensures { result ≡ self.handle.page }
     {
-        let handle = self.handle;
-        handle.page
+        self.handle.page
     }
 
     // The entries of the page's own directory, those of unknown tags included.
     pub fn directory_entry_count(self) -> usize
         ensures { result ≡ self.handle.format.entries }
     {
-        let handle = self.handle;
-        let format = handle.format;
-        format.entries
+        self.handle.format.entries
     }
 
     pub fn has_alpha(self) -> bool
@@ -109,24 +100,20 @@ impl Info {
     pub fn output_len(self) -> usize
         ensures { result ≡ self.handle.format.output }
     {
-        let handle = self.handle;
-        let format = handle.format;
-        format.output
+        self.handle.format.output
     }
 
     // The bytes of scratch that decode needs.
     pub fn scratch_len(self) -> usize
         ensures { result ≡ self.handle.scratch }
     {
-        let handle = self.handle;
-        handle.scratch
+        self.handle.scratch
     }
 
     // What decode charges: the sum of the fees.
     pub fn decode_work_limit(self) -> usize
         ensures { result ≡ self.handle.work }
     {
-        let handle = self.handle;
-        handle.work
+        self.handle.work
     }
 }
