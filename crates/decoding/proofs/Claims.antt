@@ -9,9 +9,10 @@ use mathlib.Core.Logic.{⊎_elim}
 use borrow.Author.Rules.{rules}
 use borrow.Author.Tests.{le-leb, lt-leb, not-true, not-false}
 use Rattle.checks.specs.Numbers.{invalid, output_too_small, Told, leaving}
-use Rattle.checks.specs.Checks.{pay, run, on_pass, Holds}
+use Rattle.checks.specs.Checks.{pay, run, Holds}
 use Rattle.checks.proofs.Exact.{accepted, holds_then, then, stops}
-use Rattle.checks.proofs.Rules.{must_no, must_yes}
+use Rattle.checks.specs.declared.Refused.{Refused}
+use Rattle.checks.proofs.Rules.{must_no, must_yes, checks_refused}
 use Rattle.checks.specs.Sizes.{most64}
 use Rattle.seen.specs.Seen.{Seen}
 use Rattle.header.specs.Header.{limit_checks}
@@ -23,13 +24,12 @@ use Rattle.picture.specs.Picture.{scratch_of}
 use Rattle.plan.specs.Plan.{place_checks, area_checks, plan_checks}
 use Rattle.logluv_segment.specs.Segment.{fee_checks, segment_checks, each_segment}
 use Rattle.inspection.specs.Inspection.{segments_checks, handle_of, inspect_checks, inspected_of, is_handle}
-use Rattle.handle.specs.Handle.{gives}
-use Rattle.decoding.specs.Strict.{show_checks, decode_checks, both_checks, both_of, picture_over, cleared_over, output_decoded, scratch_decoded}
+use Rattle.handle.specs.Handle.{inspected_with}
+use Rattle.decoding.specs.Strict.{show_checks, decode_checks, both_checks, both_of, picture_over, cleared_over}
 use Rattle.decoding.specs.Inner.{SegmentAccepted, PictureAccepted, HandleShowable}
 use Rattle.handle.specs.declared.Handle.{Handle}
 use Rattle.handle.specs.declared.Inspected.{Inspected}
-use Rattle.handle.specs.declared.Inspected.TheVariants as InspectedIs
-use Rattle.handle.proofs.Answers.{inspected_picture, inspected_refused, given_is}
+use Rattle.handle.proofs.Answers.{inspected_picture, given_is}
 use Rattle.std.specs.Prelude.{Ok, Err}
 
 -- where the checks of all segments hold, those of each do
@@ -48,7 +48,7 @@ module _ (v : Seen) (f : Format) (maxOutput : ℕ) where
       record { place = (holds_then (place_checks v f k) (area_checks v f maxOutput k) z.0).0; packets = z.1 }
 
 -- an inspection that gives a handle has found an accepted picture, and the handle is that of the page
-module _ (v : Seen) (page : ℕ) (l : Limits) (u : ℕ) (h : Handle) (w : ℕ) (gave : inspected_of v page l u ≡ InspectedIs.Picture h w) where
+module _ (v : Seen) (page : ℕ) (l : Limits) (u : ℕ) (h : Handle) (w : ℕ) (gave : inspected_of v page l u ≡ Ok (inspected_with h w)) where
   passed : (run (inspect_checks v page l) u ≡ Ok w) × (h ≡ handle_of v page)
   passed = inspected_picture (run (inspect_checks v page l) u) (handle_of v page) h w gave
 
@@ -113,44 +113,41 @@ module _ (v : Seen) (l : Limits) (h : Handle) {b : Bool} (eb : b ≡ is_handle v
 pub ruleset decoding = (forged, handle_showable, handle_passed, not-true, not-false, rules)
 
 -- an inspection, then the picture that it found
-module _ (v : Seen) (page : ℕ) (l : Limits) (left : ℕ) {r : Inspected} (er : r ≡ inspected_of v page l left) where
-  pub not_inspected : (output scratch e u : ℕ) → r ≡ InspectedIs.Refused e u → InspectedIs.Refused e u ≡ both_of v page l output scratch left
+module _ (v : Seen) (page : ℕ) (l : Limits) (left : ℕ) where
+  pub not_inspected : (output scratch : ℕ) {r : Refused} → Err r ≡ inspected_of v page l left → Err r ≡ both_of v page l output scratch left
   unfolding both_checks
-  not_inspected output scratch e u q =
-      let told = inspected_refused (run (inspect_checks v page l) left) (handle_of v page) e u (sym er ∙ q) in
-      rw (stops (inspect_checks v page l) (show_checks (handle_of v page) output scratch) left e u told)
+  not_inspected output scratch q =
+      let told = checks_refused (run (inspect_checks v page l) left) (inspected_with (handle_of v page)) q in
+      rw (stops (inspect_checks v page l) (show_checks (handle_of v page) output scratch) left _ told)
 
-  module _ (h : Handle) (u : ℕ) (q : r ≡ InspectedIs.Picture h u) where
+  module _ {i : Inspected} (q : Ok i ≡ inspected_of v page l left) where
+    abbrev h : Handle
+    h = i.handle
+
     pub given_handle : h ≡ handle_of v page
-    given_handle = (passed v page l left h u (sym er ∙ q)).1
+    given_handle = (passed v page l left h i.left (sym q)).1
 
     pub inspected_showable : HandleShowable v h
-    inspected_showable = given_showable v page l left h u (sym er ∙ q)
+    inspected_showable = given_showable v page l left h i.left (sym q)
 
-    module _ (output scratch : ℕ) {t : Told} (et : t ≡ run (show_checks h output scratch) u) where
-      both : t ≡ run (both_checks v page l output scratch) left
+    module _ (output scratch : ℕ) where
+      both : {t : Told} → t ≡ run (show_checks h output scratch) i.left → t ≡ run (both_checks v page l output scratch) left
       unfolding both_checks
-      both =
-          let told = (passed v page l left h u (sym er ∙ q)).0 in
+      both et =
+          let told = (passed v page l left h i.left (sym q)).0 in
           et
-          ∙ ap (λ (g : Handle). run (show_checks g output scratch) u) given_handle
-          ∙ sym (then (inspect_checks v page l) (show_checks (handle_of v page) output scratch) left u told)
+          ∙ ap (λ (g : Handle). run (show_checks g output scratch) i.left) given_handle
+          ∙ sym (then (inspect_checks v page l) (show_checks (handle_of v page) output scratch) left i.left told)
 
-      pub not_shown : (e w : ℕ) → t ≡ Err (leaving e w) → InspectedIs.Refused e w ≡ both_of v page l output scratch left
-      not_shown e w z = rw (← both, z)
+      pub not_shown : {r : Refused} → Err r ≡ run (show_checks h output scratch) i.left → Err r ≡ both_of v page l output scratch left
+      not_shown z = rw (← both z)
 
-      pub shown_too : (w : ℕ) → t ≡ Ok w → InspectedIs.Picture h w ≡ both_of v page l output scratch left
-      shown_too w z = ap (λ (g : Handle). InspectedIs.Picture g w) given_handle ∙ rw (← both, z)
+      pub shown_too : {w : ℕ} → Ok w ≡ run (show_checks h output scratch) i.left → Ok (inspected_with h w) ≡ both_of v page l output scratch left
+      shown_too {w} z = ap (λ (g : Handle). Ok (inspected_with g w)) given_handle ∙ rw (← both z)
 
-    module _ (t : Told) (w : ℕ) (z : t ≡ Ok w) (x old : List ℕ) where
-      pub picture_there : x ≡ output_decoded v h t old → x ≡ picture_over v (handle_of v page) old
-      picture_there y = (rw z at y) ∙ ap (λ (g : Handle). picture_over v g old) given_handle
+    module _ (x old : List ℕ) where
+      pub picture_there : x ≡ picture_over v h old → x ≡ picture_over v (handle_of v page) old
+      picture_there y = y ∙ ap (λ (g : Handle). picture_over v g old) given_handle
 
-      pub scratch_there : x ≡ scratch_decoded h t old → x ≡ cleared_over (handle_of v page) old
-      scratch_there y = (rw z at y) ∙ ap (λ (g : Handle). cleared_over g old) given_handle
-
--- a refusal leaves a buffer as it was
-pub left_standing : (t : Told) (e w : ℕ) (x new old : List ℕ) → t ≡ Err (leaving e w) → x ≡ on_pass t new old → x ≡ old
-left_standing t e w x new old z y = rw z at y
-
-pub ruleset reading = (not_inspected, inspected_showable, not_shown, shown_too, picture_there, scratch_there, left_standing, rules)
+      pub scratch_there : x ≡ cleared_over h old → x ≡ cleared_over (handle_of v page) old
+      scratch_there y = y ∙ ap (λ (g : Handle). cleared_over g old) given_handle

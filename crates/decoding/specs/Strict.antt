@@ -1,5 +1,5 @@
 -- Strict reading: the checks of decode, those of inspection and decode in one call, and what they leave in the lent buffers.
-use Rattle.std.specs.Prelude.{ℕ, List, [], ◌∷◌, ◌++◌, leb, length, replicate}
+use Rattle.std.specs.Prelude.{ℕ, List, [], ◌∷◌, ◌++◌, leb, length, replicate, Result}
 use Rattle.lists.specs.Lists.{overlay}
 use Rattle.checks.specs.Numbers.{invalid, output_too_small, Told}
 use Rattle.checks.specs.Checks.{Check, must, pay, run, on_pass}
@@ -11,6 +11,7 @@ use Rattle.picture.specs.Picture.{picture_of}
 use Rattle.handle.specs.Handle.{inspected, on_inspected}
 use Rattle.handle.specs.declared.Handle.{Handle}
 use Rattle.handle.specs.declared.Inspected.{Inspected}
+use Rattle.checks.specs.declared.Refused.{Refused}
 use Rattle.inspection.specs.Inspection.{handle_of, inspect_checks, is_handle}
 
 -- the buffers, the charge (rule 7.4)
@@ -33,7 +34,7 @@ module _ (v : Seen) where
   unfoldable pub both_checks : ℕ → Limits → ℕ → ℕ → List Check
   both_checks page l output scratch = inspect_checks v page l ++ show_checks (handle_of v page) output scratch
 
-  abbrev pub both_of : ℕ → Limits → ℕ → ℕ → ℕ → Inspected
+  abbrev pub both_of : ℕ → Limits → ℕ → ℕ → ℕ → Result Inspected Refused
   both_of page l output scratch left = inspected (run (both_checks page l output scratch) left) (handle_of v page)
 
 -- the picture of a format over what stood in a buffer, which stays after it
@@ -55,8 +56,8 @@ abbrev pub scratch_decoded : Handle → Told → List ℕ → List ℕ
 scratch_decoded h t old = on_pass t (cleared_over h old) old
 
 -- both in one call: likewise
-abbrev pub output_read : Seen → ℕ → Inspected → List ℕ → List ℕ
+abbrev pub output_read : Seen → ℕ → Result Inspected Refused → List ℕ → List ℕ
 output_read v page r old = on_inspected r (picture_over v (handle_of v page) old) old
 
-abbrev pub scratch_read : Seen → ℕ → Inspected → List ℕ → List ℕ
+abbrev pub scratch_read : Seen → ℕ → Result Inspected Refused → List ℕ → List ℕ
 scratch_read v page r old = on_inspected r (cleared_over (handle_of v page) old) old

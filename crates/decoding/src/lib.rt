@@ -8,7 +8,7 @@ ghost use Rattle.seen.specs.Seen.{seen};
 ghost use Rattle.decoding.specs.Strict.{show_checks, decoded_of, decoded_over, output_decoded, scratch_decoded};
 ghost use Rattle.decoding.specs.Inner.{PictureAccepted, HandleShowable, RoomFor};
 
-use checks::{INVALID, OUTPUT_TOO_SMALL, Told};
+use checks::{Refusal, Refused};
 use handle::Handle;
 use header::Limits;
 use picture::Format;
@@ -29,8 +29,8 @@ fn show_picture(
     ensures picture { output.new ≡ decoded_over (seen file.now map.now) format output.old }
     ensures cleared { scratch.new ≡ overlay (replicate needed 0) scratch.old }
 {
-    segments::show_segments(file, map, format, &mut scratch[0..needed], output);
-    clearing::clear(&mut scratch[0..needed]);
+    segments::show_segments(file, map, format, &mut scratch[..needed], output);
+    clearing::clear(&mut scratch[..needed]);
 }
 
 // The buffers, the charge, then the picture of a handle that an inspection gave.
@@ -41,29 +41,18 @@ pub fn show_handle(
     left: usize,
     output: &mut [u8],
     scratch: &mut [u8],
-) -> Told
+) -> Result<usize, Refused>
     requires { HandleShowable (seen file.now map.now) handle }
     ensures answer { result ≡ run (show_checks handle (length output.old) (length scratch.old)) left }
     ensures picture { output.new ≡ output_decoded (seen file.now map.now) handle result output.old }
     ensures cleared { scratch.new ≡ scratch_decoded handle result scratch.old }
 {
-    let format = handle.format;
-    let size = format.output;
-    let needed = handle.scratch;
-    let work = handle.work;
-    if output.len() < size {
-        return Told::Refused(OUTPUT_TOO_SMALL, left);
+    if output.len() < handle.format.output || scratch.len() < handle.scratch {
+        return Err(Refusal::OutputTooSmall.leaving(left));
     }
-    if scratch.len() < needed {
-        return Told::Refused(OUTPUT_TOO_SMALL, left);
-    }
-    match checks::spend(left, work) {
-        Told::Refused(e, u) => Told::Refused(e, u),
-        Told::Passed(u) => {
-            show_picture(file, map, format, needed, output, scratch);
-            Told::Passed(u)
-        }
-    }
+    let rest = checks::spend(left, handle.work)?;
+    show_picture(file, map, handle.format, handle.scratch, output, scratch);
+    Ok(rest)
 }
 
 // A handle that is not what an inspection gives 2, then as of one that is.
@@ -75,13 +64,13 @@ pub fn decode_seen(
     left: usize,
     output: &mut [u8],
     scratch: &mut [u8],
-) -> Told
+) -> Result<usize, Refused>
     ensures answer { result ≡ decoded_of (seen file.now map.now) limits handle output.old scratch.old left }
     ensures picture { output.new ≡ output_decoded (seen file.now map.now) handle result output.old }
     ensures cleared { scratch.new ≡ scratch_decoded handle result scratch.old }
 {
     if !inspection::is_handle(file, map, limits, handle) {
-        return Told::Refused(INVALID, left);
+        return Err(Refusal::Invalid.leaving(left));
     }
     show_handle(file, map, handle, left, output, scratch)
 }

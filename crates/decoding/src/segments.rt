@@ -7,7 +7,6 @@ ghost use Rattle.showing.specs.Shown.{shown};
 ghost use Rattle.decoding.specs.Inner.{PictureAccepted};
 
 use picture::Format;
-use plan::Place;
 
 // Each segment in turn, by way of scratch into its place in the picture.
 pub(crate) fn show_segments(
@@ -21,19 +20,11 @@ pub(crate) fn show_segments(
     ensures room { length scratch.new ≡ length scratch.old }
     ensures picture { output.new ≡ decoded_over (seen file.now map.now) format output.old }
 {
-    let segments = format.segments;
-    let mut k: usize = 0;
-    while k < segments {
-        let next = k + 1;
-        match plan::locate(file, map, format, k) {
-            // Its checks hold, so this is never met.
-            Place::Refused(_) => {
-                return;
-            }
-            Place::Range(offset, count) => {
-                showing::show_segment(file, format, k, offset, count, scratch, output);
-                k = next;
-            }
-        }
+    for k in 0..format.segments {
+        // Its checks hold, so a refusal is never met.
+        let Ok(stored) = plan::locate(file, map, format, k) else {
+            return;
+        };
+        showing::show_segment(file, format, k, stored, scratch, output);
     }
 }

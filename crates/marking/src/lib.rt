@@ -10,6 +10,7 @@ ghost use Rattle.marking.specs.Marks.{codes_of, shown_over};
 
 use picture::Format;
 
+#[tactic(auto, using(crate::proofs::Marking::marking))]
 pub fn read_segments(
     file: &[u8],
     map: &[u8],
@@ -23,10 +24,7 @@ pub fn read_segments(
     ensures room { length scratch.new ≡ length scratch.old }
     ensures marks { quality.new ≡ overlay (codes_of (seen file.now map.now) format) quality.old }
 {
-    let segments = format.segments;
-    let mut k: usize = 0;
-    while k < segments {
+    for k in 0..format.segments {
         quality[k] = reading::read_segment(file, map, format, k, scratch, output);
-        k += 1;
     }
 }

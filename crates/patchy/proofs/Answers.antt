@@ -3,7 +3,6 @@ use Prim.Native.Nat.{ℕ, ◌+◌, ◌-◌, ◌≤◌}
 use mathlib.Core.Path.{◌≡◌, sym, ap, ◌∙◌}
 use mathlib.Core.List.{List, ◌++◌, append-nil}
 use native.Mathlib.Omega.{arith}
-use native.Mathlib.Nat.{sub-zero}
 use lib.ListN.{length, take, drop, replicate, length-drop, length-replicate, replicate-append-replicate, drop_of_length-le}
 use lib.Seq.{length-take-le, take_at, drop_at}
 use borrow.Author.Rules.{rules}
@@ -16,20 +15,20 @@ use Rattle.seen.specs.Seen.{Seen}
 use Rattle.header.specs.declared.Limits.{Limits}
 use Rattle.front.specs.Front.{found, format_seen}
 use Rattle.front.specs.declared.Found.{Found}
-use Rattle.front.specs.declared.Found.TheVariants as FoundIs
 use Rattle.picture.specs.declared.Format.{Format}
 use Rattle.picture.specs.Picture.{scratch_of}
 use Rattle.clearing.proofs.Clearing.{zeroed}
 use Rattle.quality.specs.Quality.{code_of}
 use Rattle.admission.specs.Admission.{room_in, buffer_checks, admitted}
-use Rattle.patchy.specs.Patchy.{sizes_of, reading_from, reading_of, codes_over, output_after, scratch_after, quality_after}
+use Rattle.patchy.specs.Patchy.{sizes_of, reading_with, reading_from, reading_of, codes_over}
 use Rattle.marking.specs.Marks.{shown_over, codes_of}
 use Rattle.marking.specs.Inner.{Held}
 use Rattle.admission.specs.declared.Room.{Room}
 use Rattle.admission.proofs.Admitted.{admitted_format_lem, admitted_readable, admitted_room}
 use Rattle.patchy.specs.declared.Sizes.{Sizes}
-use Rattle.patchy.specs.declared.Reading.TheVariants.{Refused, Picture}
-use Rattle.checks.specs.Numbers.{Told, leaving}
+use Rattle.patchy.specs.declared.Reading.{Reading}
+use Rattle.checks.specs.declared.Refused.{Refused}
+use Rattle.checks.specs.Numbers.{Told}
 use Rattle.std.specs.Prelude.{Ok, Err}
 
 -- the sizes, of channels that a call told
@@ -46,18 +45,18 @@ sizes_told f channels e = rw e
 
 -- the part of scratch that a format needs, lent twice and zeroed the second time
 pub scratch_zeroed : (f : Format) (needed : ℕ) (old used cleared : List ℕ) → needed ≡ scratch_of f → scratch_of f ≤ length old
-    → length used ≡ length (take (needed - 0) (drop 0 old))
-    → cleared ≡ replicate (length (take (needed - 0) (drop 0 (used ++ drop (needed - 0) (drop 0 old))))) 0
-    → cleared ++ drop (needed - 0) (drop 0 (used ++ drop (needed - 0) (drop 0 old))) ≡ overlay (replicate (scratch_of f) 0) old
+    → length used ≡ length (take needed old)
+    → cleared ≡ replicate (length (take needed (used ++ drop needed old))) 0
+    → cleared ++ drop needed (used ++ drop needed old) ≡ overlay (replicate (scratch_of f) 0) old
 scratch_zeroed f needed old used cleared e room l z = rw (← e) (zeroed needed old used cleared (rw e room) l z)
 
 -- the segments are lent the needed part of scratch
 pub held_part : (v : Seen) (f : Format) (output scratch quality : List ℕ) (needed : ℕ) → needed ≡ scratch_of f → Held v f (room_in output scratch quality)
-    → Held v f (room_in output (take (needed - 0) (drop 0 scratch)) quality)
+    → Held v f (room_in output (take needed scratch) quality)
 held_part v f output scratch quality needed e h = record {
   readable = h.readable;
   output_holds = h.output_holds;
-  scratch_holds = rw (sub-zero needed) (omega (arith, length-take-le needed scratch (omega (arith, h.scratch_holds))));
+  scratch_holds = omega (arith, length-take-le needed scratch (omega (arith, h.scratch_holds)));
   quality_holds = h.quality_holds;
 }
 
@@ -84,46 +83,47 @@ tail_cleared v f old marked cleared room e z =
 pub ruleset showings = (scratch_zeroed, held_part, tail_cleared, rules)
 
 -- what a reading's answer tells of its checks
-pub picture_told : (t : Told) (f : Format) (s : Sizes) (w : ℕ) → reading_from (found t f) ≡ Picture s w → (t ≡ Ok w) × (s ≡ sizes_of f)
-picture_told (Ok x) f s w q = (cc, cc)
-picture_told (Err r) f s w q = let z : ◌≡◌ {A = ℕ} 0 1 = cc in absurd (omega arith)
+pub picture_told : (t : Told) (f : Format) {r : Reading} → reading_from (found t f) ≡ Ok r → (t ≡ Ok r.left) × (r.sizes ≡ sizes_of f)
+picture_told (Ok x) f {r} q =
+    let e : reading_with (sizes_of f) x ≡ r = cc in
+    (ap (λ (y : Reading). Ok y.left) e, ap (λ (y : Reading). y.sizes) (sym e))
+picture_told (Err s) f q = absurd cc
 
-pub refusal_told : (t : Told) (f : Format) (e w : ℕ) → reading_from (found t f) ≡ Refused e w → t ≡ Err (leaving e w)
-refusal_told (Ok x) f e w q = let z : ◌≡◌ {A = ℕ} 0 1 = cc in absurd (omega arith)
-refusal_told (Err r) f e w q = cc
+pub refusal_told : (t : Told) (f : Format) {r : Refused} → reading_from (found t f) ≡ Err r → t ≡ Err r
+refusal_told (Ok x) f q = absurd cc
+refusal_told (Err s) f q = ap Err cc
 
-module _ (v : Seen) (map page : ℕ) (l : Limits) (room : Room) (left : ℕ) {r : Found} (er : r ≡ admitted v map page l room left) where
+module _ (v : Seen) (map page : ℕ) (l : Limits) (room : Room) (left : ℕ) where
   -- the answer
-  pub read_refused : (e u : ℕ) → r ≡ FoundIs.Refused e u → Refused e u ≡ reading_of v map page l room left
-  read_refused e u q = ap reading_from (sym q ∙ er)
+  pub read_refused : {r : Refused} → Err r ≡ admitted v map page l room left → Err r ≡ reading_of v map page l room left
+  read_refused q = ap reading_from q
 
-  module _ (f : Format) (u : ℕ) (q : r ≡ FoundIs.Picture f u) where
-    pub read_picture : {s : Sizes} → s ≡ sizes_of f → Picture s u ≡ reading_of v map page l room left
-    read_picture e = ap (λ (x : Sizes). Picture x u) e ∙ ap reading_from (sym q ∙ er)
+  module _ {f : Found} (q : Ok f ≡ admitted v map page l room left) where
+    pub read_picture : {s : Sizes} → s ≡ sizes_of f.format → Ok (reading_with s f.left) ≡ reading_of v map page l room left
+    read_picture e = ap (λ (x : Sizes). Ok (reading_with x f.left)) e ∙ ap reading_from q
 
     -- what is admitted can be read into the buffers
-    pub held : Held v f room
+    pub held : Held v f.format room
     unfolding buffer_checks Holds
     held =
-        let room-holds = admitted_room v map page l room left er f u q in
+        let room_holds = admitted_room v map page l room left q in
         record {
-          readable = admitted_readable v map page l room left er f u q;
-          output_holds = leb-true _ _ room-holds.0;
-          scratch_holds = leb-true _ _ room-holds.1.0;
-          quality_holds = leb-true _ _ room-holds.1.1.0;
+          readable = admitted_readable v map page l room left q;
+          output_holds = leb-true _ _ room_holds.0;
+          scratch_holds = leb-true _ _ room_holds.1.0;
+          quality_holds = leb-true _ _ room_holds.1.1.0;
         }
 
-    format_is : f ≡ format_seen v page
-    format_is = admitted_format_lem v map page l room left er f u q
+    format_is : f.format ≡ format_seen v page
+    format_is = admitted_format_lem v map page l room left q
 
     -- what is left in the buffers
-    pub output_shown : (s : Sizes) (old after : List ℕ) → after ≡ shown_over v f old → after ≡ output_after v page (Picture s u) old
-    output_shown s old after e = rw format_is at e
+    pub output_shown : (old after : List ℕ) → after ≡ shown_over v f.format old → after ≡ shown_over v (format_seen v page) old
+    output_shown old after e = rw format_is at e
 
-    pub scratch_cleared : (s : Sizes) (old after : List ℕ) → after ≡ overlay (replicate (scratch_of f) 0) old → after ≡ scratch_after v page (Picture s u) old
-    scratch_cleared s old after e = rw format_is at e
+    pub scratch_cleared : (old after : List ℕ) → after ≡ overlay (replicate (scratch_of f.format) 0) old
+        → after ≡ overlay (replicate (scratch_of (format_seen v page)) 0) old
+    scratch_cleared old after e = rw format_is at e
 
-    pub quality_marked : (s : Sizes) (old after : List ℕ) → after ≡ codes_over v f old → after ≡ quality_after v page (Picture s u) old
-    quality_marked s old after e = rw format_is at e
-
-pub ruleset answers = (held, read_refused, read_picture, output_shown, scratch_cleared, quality_marked, rules)
+    pub quality_marked : (old after : List ℕ) → after ≡ codes_over v f.format old → after ≡ codes_over v (format_seen v page) old
+    quality_marked old after e = rw format_is at e

@@ -11,12 +11,12 @@ ghost use Rattle.marking.specs.Marks.{shown_over};
 ghost use Rattle.marking.specs.Inner.{Held};
 
 use admission::Room;
-use front::Found;
+use checks::Refused;
 use header::Limits;
 use picture::Format;
 
 // The sides of a picture and of its blocks, the number of its segments, and the samples of a pixel.
-#[derive(Clone, Copy)]
+#[derive(Clone, Copy, Debug, PartialEq, Eq)]
 pub struct Sizes {
     pub width: usize,
     pub height: usize,
@@ -26,25 +26,24 @@ pub struct Sizes {
     pub channels: usize,
 }
 
-// A refusal's number or the picture's sizes, and the units left.
-#[derive(Clone, Copy)]
-pub enum Reading {
-    Refused(u8, usize),
-    Picture(Sizes, usize),
+// The picture's sizes, and the units left.
+#[derive(Clone, Copy, Debug, PartialEq, Eq)]
+pub struct Reading {
+    pub sizes: Sizes,
+    pub left: usize,
 }
 
+#[tactic(auto, using(crate::proofs::Answers::sizes_told))]
 fn sizes_of(format: Format) -> Sizes
     ensures { result ≡ sizes_of format }
 {
-    let mono = format.mono;
-    let channels = head::channels_of(mono);
     Sizes {
         width: format.width,
         height: format.height,
         block_width: format.block_width,
         block_height: format.block_height,
         segments: format.segments,
-        channels: channels,
+        channels: head::channels_of(format.mono),
     }
 }
 
@@ -63,11 +62,9 @@ fn show_picture(
     ensures marks { quality.new ≡ codes_over (seen file.now map.now) format quality.old }
 {
     let needed = picture::scratch_of(format);
-    let count = format.segments;
-    let end = quality.len();
-    marking::read_segments(file, map, format, output, &mut scratch[0..needed], quality);
-    clearing::clear(&mut scratch[0..needed]);
-    clearing::clear(&mut quality[count..end]);
+    marking::read_segments(file, map, format, output, &mut scratch[..needed], quality);
+    clearing::clear(&mut scratch[..needed]);
+    clearing::clear(&mut quality[format.segments..]);
 }
 
 // The limits, the map, header, directories and profile, the buffers and the charge, in order; then every segment gets its quality
@@ -81,7 +78,7 @@ pub fn read(
     output: &mut [u8],
     scratch: &mut [u8],
     quality: &mut [u8],
-) -> Reading
+) -> Result<Reading, Refused>
     ensures value { result ≡ reading file.now map.now page limits output.old scratch.old quality.old left }
     ensures picture { output.new ≡ output_after (seen file.now map.now) page result output.old }
     ensures cleared { scratch.new ≡ scratch_after (seen file.now map.now) page result scratch.old }
@@ -93,13 +90,16 @@ pub fn read(
         quality: quality.len(),
     };
     match admission::admit(file, map, page, limits, room, left) {
-        Found::Refused(e, u) => {
+        Err(refused) => {
             clearing::clear(quality);
-            Reading::Refused(e, u)
+            Err(refused)
         }
-        Found::Picture(format, u) => {
-            show_picture(file, map, format, output, scratch, quality);
-            Reading::Picture(sizes_of(format), u)
+        Ok(found) => {
+            show_picture(file, map, found.format, output, scratch, quality);
+            Ok(Reading {
+                sizes: sizes_of(found.format),
+                left: found.left,
+            })
         }
     }
 }

@@ -1,33 +1,15 @@
 -- Each return is one of the checks, and the picture is shown after the last.
-use Rattle.decoding.proofs.Claims.{showing}
+use mathlib.Core.Path.{refl}
+use native.Mathlib.Omega.{arith}
+use Rattle.checks.proofs.Rules.{handed_on}
+use Rattle.decoding.proofs.Claims.{showing, charged}
 use Rattle.decoding.proofs.show_handle.Goals as goal
 
-pub returns-then-output-size : goal.returns-then-output-size
-returns-then-output-size c = search showing
+pub returns-then-output-handle-clause-answer : goal.returns-then-output-handle-clause-answer
+returns-then-output-handle-clause-answer c = search showing
 
-pub returns-then-scratch-needed : goal.returns-then-scratch-needed
-returns-then-scratch-needed c = search showing
+pub returns-in_err-rest-clause-answer : goal.returns-in_err-rest-clause-answer
+returns-in_err-rest-clause-answer c = handed_on c.from_residual.ensures.1 (charged c.args.handle _ _ _ (omega arith) (omega arith) c.in_err-rest.ensures refl)
 
-pub spend-requires : goal.spend-requires
-spend-requires c = search showing
-
-pub enum_known-e : goal.enum_known-e
-enum_known-e c = search showing
-
-pub enum_known-u : goal.enum_known-u
-enum_known-u c = search showing
-
-pub show_picture-requires : goal.show_picture-requires
-show_picture-requires c = search showing
-
-pub returns-in-Refused : goal.returns-in-Refused
-returns-in-Refused c = record { answer = search showing; picture = search showing; cleared = search showing }
-
-pub shape_of-output : goal.shape_of-output
-shape_of-output c = search showing
-
-pub shape_of-scratch : goal.shape_of-scratch
-shape_of-scratch c = search showing
-
-pub returns-in-Passed : goal.returns-in-Passed
-returns-in-Passed c = record { answer = search showing; picture = search showing; cleared = search showing }
+pub returns-clause-answer : goal.returns-clause-answer
+returns-clause-answer c = charged c.args.handle _ _ _ (omega arith) (omega arith) c.in_ok-rest.ensures refl
