@@ -13,7 +13,9 @@ use Rattle.handle.specs.declared.Inspected.{Inspected}
 use Rattle.handle.proofs.Handles.{same_is}
 
 pub inspected_picture : (t : Told) (h g : Handle) (w : ℕ) → inspected t h ≡ Ok (inspected_with g w) → (t ≡ Ok w) × (g ≡ h)
-inspected_picture (Ok x) h g w q = let e : inspected_with h x ≡ inspected_with g w = cc in (ap (λ (i : Inspected). Ok i.left) e, sym (ap (λ (i : Inspected). i.handle) e))
+inspected_picture (Ok x) h g w q =
+    let e : inspected_with h x ≡ inspected_with g w = cc in
+    (ap (λ (i : Inspected). Ok i.left) e, sym (ap (λ (i : Inspected). i.handle) e))
 inspected_picture (Err r) h g w q = absurd cc
 
 pub inspected_refused : (t : Told) (h : Handle) (e : Refusal) (w : ℕ) → inspected t h ≡ Err (leaving e w) → t ≡ Err (leaving e w)

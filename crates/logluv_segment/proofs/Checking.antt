@@ -68,7 +68,9 @@ module _ (file map : List ℕ) (f : Format) (m k left : ℕ) where
 
   pub plan_refused : {e : Refusal} {r : Refused} → Err e ≡ plan_is (seen file map) f m k → r ≡ leaving e left → Err r ≡ answer
   unfolding segment_checks
-  plan_refused q z = rw z (ended_by_free (plan_checks (seen file map) f m k) (fee_checks (seen file map) f k) left free (sym (not_planned (seen file map) f m k q)))
+  plan_refused q z =
+      let refused = sym (not_planned (seen file map) f m k q) in
+      rw z (ended_by_free (plan_checks (seen file map) f m k) (fee_checks (seen file map) f k) left free refused)
 
   module _ {p : Plan} (q : Ok p ≡ plan_is (seen file map) f m k) where
     so : PlannedSo (seen file map) f m k p
