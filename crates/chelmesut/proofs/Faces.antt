@@ -6,11 +6,9 @@ use mathlib.Core.List.{List, [], ◌∷◌}
 use lib.ListN.{length}
 use borrow.Author.Rules.{rules}
 use borrow.Author.Tests.{not-true, not-false}
-use Rattle.checks.specs.Numbers.{invalid, told_number, told_left}
+use Rattle.checks.specs.Numbers.{invalid, told_number, told_left, Told, leaving}
 use Rattle.checks.specs.Checks.{run, on_pass}
 use Rattle.checks.specs.Sizes.{most64}
-use Rattle.checks.specs.declared.Told.{Told}
-use Rattle.checks.specs.declared.Told.TheVariants as ToldIs
 use Rattle.checks.proofs.Rules.{must_no, must_yes}
 use Rattle.seen.specs.Seen.{seen}
 use Rattle.header.specs.declared.Limits.{Limits}
@@ -29,6 +27,7 @@ use Rattle.patchy.specs.declared.Reading.TheVariants as ReadingIs
 use Rattle.face_words.specs.Words.{words_of, same_words}
 use Rattle.face_leaves.specs.Leaves.{WorkLimit}
 use Rattle.chelmesut.specs.Face.{words_after, gives_words, words_checks, words_decode_told, face_reading, Inspect, Decode, ReadPatchy}
+use Rattle.std.specs.Prelude.{Ok, Err}
 
 module _
     (file : List ℕ)
@@ -96,7 +95,7 @@ module _ (file : List ℕ) (page : ℕ) (l : Limits) (words : List ℕ) (units :
 
     forged : gives_words r words ≡ false → (n : ℕ) → n ≡ invalid → Done n units output scratch
     unfolding words_checks
-    forged z n en = as_told (ToldIs.Refused invalid units) (must_no _ _ _ _ (gives z)) n units en refl output scratch refl refl
+    forged z n en = as_told (Err (leaving invalid units)) (must_no _ _ _ _ (gives z)) n units en refl output scratch refl refl
 
     pub none_given : (e u n : ℕ) → r ≡ InspectedIs.Refused e u → n ≡ invalid → Done n units output scratch
     none_given e u n q en = forged (ap (λ (i : Inspected). gives_words i words) q) n en
@@ -124,10 +123,10 @@ module _ (file : List ℕ) (page : ℕ) (l : Limits) (words : List ℕ) (units :
             there : (n left : ℕ) → n ≡ told_number t → left ≡ told_left t → Done n left x y
             there n left en el = as_told t told n left en el x y (ex ∙ ap (shown t) same) (ey ∙ ap (cleared t) same)
 
-            pub not_shown : (e w n : ℕ) → t ≡ ToldIs.Refused e w → n ≡ e → Done n w x y
+            pub not_shown : (e w n : ℕ) → t ≡ Err (leaving e w) → n ≡ e → Done n w x y
             not_shown e w n p en = there n w (en ∙ ap told_number (sym p)) (ap told_left (sym p))
 
-            pub shown_too : (w : ℕ) → t ≡ ToldIs.Passed w → Done 0 w x y
+            pub shown_too : (w : ℕ) → t ≡ Ok w → Done 0 w x y
             shown_too w p = there 0 w (ap told_number (sym p)) (ap told_left (sym p))
 
 pub ruleset decoding = (none_given, showable, words_differ, not_shown, shown_too, not-true, not-false, rules)

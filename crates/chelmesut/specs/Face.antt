@@ -1,29 +1,28 @@
 -- The calls of the C face that read a file: what each answers, and what it leaves in what it was lent.
-use Rattle.std.specs.Prelude.{ℕ, ◌≡◌, Bool, false, List, [], ◌∷◌, length}
-use Rattle.checks.specs.Numbers.{invalid, told_number, told_left}
+use Rattle.std.specs.Prelude.{ℕ, ◌≡◌, Bool, false, List, [], ◌∷◌, length, Result, Ok, Err}
+use Rattle.checks.specs.Numbers.{invalid, told_number, told_left, Told}
 use Rattle.checks.specs.Checks.{Check, must, run, on_pass}
 use Rattle.checks.specs.Sizes.{most64}
-use Rattle.checks.specs.declared.Told.{Told}
 use Rattle.seen.specs.Seen.{Seen, seen}
 use Rattle.header.specs.declared.Limits.{Limits}
 use Rattle.inspection.specs.Inspection.{handle_of, inspected_of}
 use Rattle.handle.specs.Handle.{inspected_number, inspected_left}
 use Rattle.decoding.specs.Strict.{show_checks, picture_over, cleared_over}
 use Rattle.handle.specs.declared.Inspected.{Inspected}
-use Rattle.handle.specs.declared.Inspected.TheVariants as InspectedIs
+use Rattle.checks.specs.declared.Refused.{Refused}
 use Rattle.patchy.specs.Patchy as patchy
 use Rattle.patchy.specs.declared.Reading.{Reading}
 use Rattle.face_words.specs.Words.{words_of, same_words}
 
 -- after an inspection the words are those of its handle; a refusal leaves them (rule 7.2)
-abbrev pub words_after : Inspected → List ℕ → List ℕ
-words_after (InspectedIs.Picture h left) old = words_of h
-words_after (InspectedIs.Refused e left) old = old
+abbrev pub words_after : Result Inspected Refused → List ℕ → List ℕ
+words_after (Ok i) old = words_of i.handle
+words_after (Err r) old = old
 
 -- words are a handle's where an inspection with units for any charge gives them (rule 7.4)
-abbrev pub gives_words : Inspected → List ℕ → Bool
-gives_words (InspectedIs.Picture h left) given = same_words (words_of h) given
-gives_words (InspectedIs.Refused e left) given = false
+abbrev pub gives_words : Result Inspected Refused → List ℕ → Bool
+gives_words (Ok i) given = same_words (words_of i.handle) given
+gives_words (Err r) given = false
 
 -- the words, then the buffers and the charge of the handle that they stand for
 unfoldable pub words_checks : Seen → ℕ → Limits → List ℕ → ℕ → ℕ → List Check
@@ -33,7 +32,7 @@ words_checks v page l given output scratch =
 -- what each call gives and leaves, from what it was lent
 module _ (file : List ℕ) (page : ℕ) (l : Limits) where
   module _ (units : ℕ) (words : List ℕ) where
-    abbrev pub inspection : Inspected
+    abbrev pub inspection : Result Inspected Refused
     inspection = inspected_of (seen file []) page l units
 
     pub record Inspect (number left : ℕ) (words' : List ℕ) : Type 0 where
@@ -52,7 +51,7 @@ module _ (file : List ℕ) (page : ℕ) (l : Limits) where
       pub scratch_is : scratch' ≡ on_pass words_decode_told (cleared_over (handle_of (seen file []) page) scratch) scratch
 
   module _ (map : List ℕ) (units : ℕ) (output scratch quality words : List ℕ) where
-    abbrev pub face_reading : Reading
+    abbrev pub face_reading : Result Reading Refused
     face_reading = patchy.reading file map page l output scratch quality units
 
     pub record ReadPatchy (number left : ℕ) (output' scratch' quality' words' : List ℕ) : Type 0 where

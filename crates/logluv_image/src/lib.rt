@@ -11,7 +11,7 @@ use image_info::Info;
 use plain_patchy::Answer;
 
 // The units at hand.
-#[derive(Clone, Copy)]
+#[derive(Clone, Copy, Debug, PartialEq, Eq)]
 pub struct Budget {
     pub remaining: usize,
 }
@@ -35,10 +35,9 @@ pub fn inspect_logluv_tiff<'a>(
 {
     let found = plain_image::inspect(input, page, limits, budget.remaining);
     budget.remaining = found.left;
-    let info = found.info;
     LogluvImage {
-        input: input,
-        info: info,
+        input,
+        info: found.info,
     }
 }
 

@@ -1,7 +1,7 @@
 -- The named forms: what an image carries of an inspection, and what each call leaves of its budget and its buffers.
-use Rattle.std.specs.Prelude.{ℕ, ◌≡◌, false, List, [], ◌∷◌, eqb, length}
+use Rattle.std.specs.Prelude.{ℕ, ◌≡◌, false, List, [], ◌∷◌, eqb, length, Result, Ok, Err}
 use Rattle.head.specs.Heads.{colour_head}
-use Rattle.checks.specs.Numbers.{invalid, told_number, told_left, Told}
+use Rattle.checks.specs.Numbers.{number_of, invalid, told_number, told_left, Told}
 use Rattle.checks.specs.Checks.{Check, must, run, on_pass}
 use Rattle.seen.specs.Seen.{Seen, seen}
 use Rattle.header.specs.declared.Limits.{Limits}
@@ -11,7 +11,7 @@ use Rattle.handle.specs.Handle.{inspected_left}
 use Rattle.decoding.specs.Strict.{decode_checks, picture_over, cleared_over}
 use Rattle.handle.specs.declared.Handle.{Handle}
 use Rattle.handle.specs.declared.Inspected.{Inspected}
-use Rattle.handle.specs.declared.Inspected.TheVariants as InspectedIs
+use Rattle.checks.specs.declared.Refused.{Refused}
 use Rattle.image_info.specs.declared.Info.{Info}
 
 -- what stands where nothing was accepted: every number 0, and the head that channels of 3 stand for (rule 7.7)
@@ -42,9 +42,9 @@ no_handle = record { format = no_format; page = 0; scratch = 0; work = 0 }
 abbrev pub refused : ℕ → Info
 refused e = record { number = e; limits = no_limits; handle = no_handle }
 
-abbrev pub info_of : Limits → Inspected → Info
-info_of l (InspectedIs.Picture h left) = record { number = 0; limits = l; handle = h }
-info_of l (InspectedIs.Refused e left) = refused e
+abbrev pub info_of : Limits → Result Inspected Refused → Info
+info_of l (Ok i) = record { number = 0; limits = l; handle = i.handle }
+info_of l (Err r) = refused (number_of r.refusal)
 
 -- an inspection with so many units at hand: what the image carries, and the units left
 pub record ImageInspected (file : List ℕ) (page : ℕ) (l : Limits) (units : ℕ) (info : Info) (left : ℕ) : Type 0 where

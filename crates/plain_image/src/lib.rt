@@ -4,21 +4,21 @@
 ghost use Rattle.std.specs.Prelude.{◌≡◌};
 ghost use Rattle.plain_image.specs.Image.{refused, ImageInspected, ImageDecoded};
 
-use checks::{INVALID, Told};
-use handle::{Handle, Inspected};
+use checks::Refusal;
+use handle::Handle;
 use header::Limits;
 use image_info::Info;
 use picture::Format;
 
 // What inspection gives, and the units left.
-#[derive(Clone, Copy)]
+#[derive(Clone, Copy, Debug, PartialEq, Eq)]
 pub struct Inspection {
     pub info: Info,
     pub left: usize,
 }
 
 // The number of a decode's answer, and the units left.
-#[derive(Clone, Copy)]
+#[derive(Clone, Copy, Debug, PartialEq, Eq)]
 pub struct Decoded {
     pub number: u8,
     pub left: usize,
@@ -44,7 +44,7 @@ fn refused_with(number: u8) -> Info
         mono: false,
     };
     let handle = Handle {
-        format: format,
+        format,
         page: 0,
         scratch: 0,
         work: 0,
@@ -58,9 +58,9 @@ fn refused_with(number: u8) -> Info
         max_segments: 0,
     };
     Info {
-        number: number,
-        limits: limits,
-        handle: handle,
+        number,
+        limits,
+        handle,
     }
 }
 
@@ -68,17 +68,17 @@ pub fn inspect(input: &[u8], page: usize, limits: Limits, left: usize) -> Inspec
     ensures { ImageInspected input.now page limits left result.info result.left }
 {
     match logluv_tiff::inspect(input, page, limits, left) {
-        Inspected::Refused(e, u) => Inspection {
-            info: refused_with(e),
-            left: u,
-        },
-        Inspected::Picture(handle, u) => Inspection {
+        Ok(found) => Inspection {
             info: Info {
                 number: 0,
-                limits: limits,
-                handle: handle,
+                limits,
+                handle: found.handle,
             },
-            left: u,
+            left: found.left,
+        },
+        Err(refused) => Inspection {
+            info: refused_with(u8::from(refused.refusal)),
+            left: refused.left,
         },
     }
 }
@@ -94,17 +94,20 @@ pub fn decode(
     ensures { ImageDecoded input.now info output.old scratch.old left
         result.number result.left output.new scratch.new }
 {
-    let number = info.number;
-    let limits = info.limits;
-    let handle = info.handle;
-    if number != 0 {
+    if info.number != 0 {
         return Decoded {
-            number: INVALID,
-            left: left,
+            number: u8::from(Refusal::Invalid),
+            left,
         };
     }
-    match logluv_tiff::decode(input, limits, handle, left, output, scratch) {
-        Told::Refused(e, u) => Decoded { number: e, left: u },
-        Told::Passed(u) => Decoded { number: 0, left: u },
+    match logluv_tiff::decode(input, info.limits, info.handle, left, output, scratch) {
+        Ok(rest) => Decoded {
+            number: 0,
+            left: rest,
+        },
+        Err(refused) => Decoded {
+            number: u8::from(refused.refusal),
+            left: refused.left,
+        },
     }
 }

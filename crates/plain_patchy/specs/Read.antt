@@ -1,24 +1,25 @@
 -- The named form of patchy reading: its answer, and what it leaves of its budget and its buffers.
-use Rattle.std.specs.Prelude.{ℕ, ◌≡◌, List}
+use Rattle.std.specs.Prelude.{ℕ, ◌≡◌, List, Result, Ok, Err}
 use Rattle.seen.specs.Seen.{seen}
 use Rattle.header.specs.declared.Limits.{Limits}
 use Rattle.patchy.specs.Patchy as patchy
 use Rattle.patchy.specs.declared.Sizes.{Sizes}
 use Rattle.patchy.specs.declared.Reading.{Reading}
-use Rattle.patchy.specs.declared.Reading.TheVariants as ReadingIs
+use Rattle.checks.specs.Numbers.{number_of}
+use Rattle.checks.specs.declared.Refused.{Refused}
 use Rattle.plain_patchy.specs.declared.Answer.{Answer}
 
 -- the answer: 0 and the picture's sizes; after a refusal its number, and every size is 0 (rules 8.9 and 7.7)
 abbrev pub no_sizes : Sizes
 no_sizes = record { width = 0; height = 0; block_width = 0; block_height = 0; segments = 0; channels = 0 }
 
-abbrev pub answer_of : Reading → Answer
-answer_of (ReadingIs.Picture s left) = record { number = 0; sizes = s }
-answer_of (ReadingIs.Refused e left) = record { number = e; sizes = no_sizes }
+abbrev pub answer_of : Result Reading Refused → Answer
+answer_of (Ok r) = record { number = 0; sizes = r.sizes }
+answer_of (Err r) = record { number = number_of r.refusal; sizes = no_sizes }
 
 -- patchy reading: the answer, the units left, the three buffers afterwards
 module _ (file map : List ℕ) (page : ℕ) (l : Limits) (output scratch quality : List ℕ) (units : ℕ) where
-  abbrev pub image_reading : Reading
+  abbrev pub image_reading : Result Reading Refused
   image_reading = patchy.reading file map page l output scratch quality units
 
   pub record PatchyRead (answer : Answer) (left : ℕ) (output' scratch' quality' : List ℕ) : Type 0 where

@@ -5,17 +5,17 @@ ghost use Rattle.std.specs.Prelude.{◌≡◌};
 ghost use Rattle.plain_patchy.specs.Read.{no_sizes, PatchyRead};
 
 use header::Limits;
-use patchy::{Reading, Sizes};
+use patchy::Sizes;
 
 // The answer of patchy reading: 0 and the picture's sizes, or a refusal's number and sizes of 0.
-#[derive(Clone, Copy)]
+#[derive(Clone, Copy, Debug, PartialEq, Eq)]
 pub struct Answer {
     pub number: u8,
     pub sizes: Sizes,
 }
 
 // The answer of patchy reading, and the units left.
-#[derive(Clone, Copy)]
+#[derive(Clone, Copy, Debug, PartialEq, Eq)]
 pub struct Taken {
     pub answer: Answer,
     pub left: usize,
@@ -49,19 +49,19 @@ pub fn read(
         result.answer result.left output.new scratch.new quality.new }
 {
     match patchy::read(file, map, page, limits, left, output, scratch, quality) {
-        Reading::Refused(e, u) => Taken {
-            answer: Answer {
-                number: e,
-                sizes: no_sizes(),
-            },
-            left: u,
-        },
-        Reading::Picture(sizes, u) => Taken {
+        Ok(reading) => Taken {
             answer: Answer {
                 number: 0,
-                sizes: sizes,
+                sizes: reading.sizes,
             },
-            left: u,
+            left: reading.left,
+        },
+        Err(refused) => Taken {
+            answer: Answer {
+                number: u8::from(refused.refusal),
+                sizes: no_sizes(),
+            },
+            left: refused.left,
         },
     }
 }

@@ -1,33 +1,14 @@
--- An image that carries a refusal is refused; else the answer is that of decode of its handle.
-use Rattle.plain_image.proofs.Answers.{decodes}
+-- The image's own number first, then what decode of its handle says.
+use Rattle.plain_image.proofs.Answers.{carries_refusal, not_decoded, decoded}
 use Rattle.plain_image.proofs.decode.Goals as goal
 
-pub returns-then-number-ne0 : goal.returns-then-number-ne0
-returns-then-number-ne0 c = search decodes
+pub returns-then-info-ne0 : goal.returns-then-info-ne0
+returns-then-info-ne0 c = carries_refusal _ _ _ _ _ c.if-info-ne0.true c.from.ensures
 
-pub decode-requires : goal.decode-requires
-decode-requires c = search decodes
+pub returns-in-Ok : goal.returns-in-Ok
+returns-in-Ok c = decoded _ _ _ _ _ c.if-info-ne0.false _ _ c.in-Ok.ensures.answer c.in-Ok.ensures.picture c.in-Ok.ensures.cleared
 
-pub enum_known-e : goal.enum_known-e
-enum_known-e c = search decodes
-
-pub enum_known-u : goal.enum_known-u
-enum_known-u c = search decodes
-
-pub shape_of-output-in-Refused : goal.shape_of-output-in-Refused
-shape_of-output-in-Refused c = search decodes
-
-pub shape_of-scratch-in-Refused : goal.shape_of-scratch-in-Refused
-shape_of-scratch-in-Refused c = search decodes
-
-pub returns-in-Refused : goal.returns-in-Refused
-returns-in-Refused c = search decodes
-
-pub shape_of-output-in-Passed : goal.shape_of-output-in-Passed
-shape_of-output-in-Passed c = search decodes
-
-pub shape_of-scratch-in-Passed : goal.shape_of-scratch-in-Passed
-shape_of-scratch-in-Passed c = search decodes
-
-pub returns-in-Passed : goal.returns-in-Passed
-returns-in-Passed c = search decodes
+pub returns-in-Err : goal.returns-in-Err
+returns-in-Err c =
+    not_decoded _ _ _ _ _ c.if-info-ne0.false _ _ c.in-Err.ensures.answer c.in-Err.ensures.picture c.in-Err.ensures.cleared
+    c.from-in-Err.ensures
