@@ -1,4 +1,5 @@
-// The calls of the C face over a receiver, with its state as two words and numbers for its answers, as C has them.
+// The calls of the C face over a receiver. As C has them, its state is two words, its answers are numbers, and what is lent comes one by
+// one.
 #![tactic(auto)]
 
 ghost use Rattle.std.specs.Prelude.{◌≡◌};

@@ -16,7 +16,7 @@ pub fn word_of(refusal: Refusal) -> usize
     usize::from(u8::from(refusal))
 }
 
-// The six limits, in the order of rule 1.6.
+// The six limits, which C hands over one by one, in the order of rule 1.6.
 pub fn limits_of(
     max_input: usize,
     max_output: usize,
