@@ -7,11 +7,13 @@ ghost use Rattle.report.specs.Pixels.{bytes_for};
 
 use arguments::{Kind, Target};
 use buffers::filled;
+use checks::Refused;
 use complain::{Complained, Complaints};
 use header::Limits;
 use patchy::{Reading, Sizes};
 use std::io;
 use std::rt::Files;
+use summary::grey::Picture;
 
 // The names that a program is given.
 pub mod arguments;
@@ -59,17 +61,30 @@ fn bytes_a_pixel(channels: usize) -> usize
     if channels == 1 { 2 } else { 6 }
 }
 
+// The picture that was read, for what shows it.
+fn picture_of(sizes: Sizes, bytes: &[u8]) -> Picture<'_>
+    ensures bytes { result.bytes.now ≡ bytes.now }
+    ensures size { result.size ≡ bytes_for sizes.channels }
+    ensures sides { (result.width ≡ sizes.width) × (result.height ≡ sizes.height) }
+{
+    Picture {
+        bytes,
+        size: bytes_a_pixel(sizes.channels),
+        width: sizes.width,
+        height: sizes.height,
+    }
+}
+
 // The blocks, the refusal and the charge. There is nothing to write then.
 fn report_refusal(
     rt: &impl Print,
     target: Option<Target>,
     map: &[u8],
-    number: u8,
-    left: usize,
+    refused: Refused,
 ) -> io::Result<()> {
     lines::put_blocks(rt, map)?;
-    refusal::put(rt, number, limits())?;
-    lines::put_charge(rt, left)?;
+    refusal::put(rt, refused.refusal, limits())?;
+    lines::put_charge(rt, refused.left)?;
     lines::put_unwritten(rt, target)
 }
 
@@ -103,8 +118,7 @@ fn file_of<'a>(
             &picture[..n]
         }
         Kind::Pgm => {
-            let size = bytes_a_pixel(sizes.channels);
-            let n = pgm::put(size, picture, sizes.width, sizes.height, scratch);
+            let n = pgm::put(&picture_of(sizes, picture), scratch);
             &scratch[..n]
         }
     }
@@ -153,11 +167,11 @@ pub fn show(
         &mut scratch,
         &mut quality,
     ) {
-        Reading::Refused(number, left) => {
-            let _ = report_refusal(rt, target, map, number, left);
+        Err(refused) => {
+            let _ = report_refusal(rt, target, map, refused);
             Ok(())
         }
-        Reading::Picture(sizes, left) => {
+        Ok(Reading { sizes, left }) => {
             let _ = report_picture(rt, map, sizes, &quality, left);
             match target {
                 Some(target) => write_picture(

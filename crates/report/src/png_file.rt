@@ -4,9 +4,8 @@ ghost use Rattle.io.specs.Counts.{IsPrefixLen};
 ghost use Rattle.report.specs.PngFile.{png_file_of};
 ghost use Rattle.report.specs.Pixels.{bytes_for};
 
-use crate::bytes_a_pixel;
+use crate::picture_of;
 use patchy::Sizes;
-use summary::grey::Picture;
 
 // The file's bytes in the place of the picture, and how many there are. Scratch has the pixels' colours then.
 #[tactic(auto, using(crate::proofs::ColourFile::colour_file))]
@@ -15,14 +14,8 @@ pub fn put_file(sizes: Sizes, quality: &[u8], picture: &mut [u8], scratch: &mut 
     ensures picture_after { take result picture.new ≡ png_file_of (bytes_for sizes.channels) sizes.width sizes.height
         sizes.block_width sizes.block_height picture.old quality.now (length scratch.old) }
 {
-    let shown = Picture {
-        bytes: picture,
-        size: bytes_a_pixel(sizes.channels),
-        width: sizes.width,
-        height: sizes.height,
-    };
     let n = colours::put_colours(
-        &shown,
+        &picture_of(sizes, picture),
         quality,
         sizes.block_width,
         sizes.block_height,
