@@ -1,5 +1,6 @@
 // What is written of a reading: its answer, the quality of each strip, and checksums of the picture's parts. The error of a write goes
 // up to main, which ends with it; what came before it is written.
+use checks::Refused;
 use patchy::{Reading, Sizes};
 use records::crc::crc32;
 use std::io;
@@ -18,10 +19,12 @@ fn put_sizes(out: &mut impl Write, s: Sizes) -> io::Result<()> {
     )
 }
 
-pub fn put_reading(out: &mut impl Write, reading: Reading) -> io::Result<()> {
+pub fn put_reading(out: &mut impl Write, reading: Result<Reading, Refused>) -> io::Result<()> {
     match reading {
-        Reading::Refused(number, left) => writeln!(out, "  refused {number}, left {left}"),
-        Reading::Picture(sizes, left) => {
+        Err(Refused { refusal, left }) => {
+            writeln!(out, "  refused {}, left {left}", u8::from(refusal))
+        }
+        Ok(Reading { sizes, left }) => {
             put_sizes(out, sizes)?;
             writeln!(out, ", left {left}")
         }
