@@ -2,7 +2,7 @@
 use crate::ask::Ask;
 use crate::line;
 use crate::walk::Record;
-use checks::Verdict;
+use checks::Refused;
 use front::Found;
 use picture::Format;
 use seen::Reach;
@@ -22,10 +22,10 @@ fn put_format(out: &mut impl Write, f: Format) -> io::Result<()> {
     )
 }
 
-fn put_found(out: &mut impl Write, found: Found) -> io::Result<()> {
+fn put_found(out: &mut impl Write, found: Result<Found, Refused>) -> io::Result<()> {
     match found {
-        Found::Refused(number, left) => line::put_refusal(out, number, left),
-        Found::Picture(format, left) => {
+        Err(refused) => line::put_refusal(out, refused),
+        Ok(Found { format, left }) => {
             put_format(out, format)?;
             write!(out, ", left {left}")
         }
@@ -40,8 +40,8 @@ pub fn run_format(out: &mut impl Write, record: Record) -> io::Result<()> {
     } = Ask::of(record.numbers);
     let (file, map) = (record.file, record.more);
     match header::check_limits(file.len(), page, limits) {
-        Verdict::Refused(number) => line::put_refusal(out, number, units),
-        Verdict::Fine => put_found(out, front::read_format(file, map, page, limits, units)),
+        Err(refusal) => line::put_refusal(out, refusal.leaving(units)),
+        Ok(()) => put_found(out, front::read_format(file, map, page, limits, units)),
     }
 }
 

@@ -1,6 +1,6 @@
 // What is written of checksums and answers that several groups have. The error of a write goes up to main, which ends with it;
 // what came before it is written.
-use checks::Verdict;
+use checks::{Refusal, Refused};
 use picture::Format;
 use records::crc::crc32;
 use std::io;
@@ -32,16 +32,17 @@ pub fn show(out: &mut impl Write, buffer: &[u8]) -> io::Result<()> {
     }
 }
 
-pub fn put_verdict(out: &mut impl Write, verdict: Verdict) -> io::Result<()> {
+pub fn put_verdict(out: &mut impl Write, verdict: Result<(), Refusal>) -> io::Result<()> {
     let number = match verdict {
-        Verdict::Fine => 0,
-        Verdict::Refused(number) => number,
+        Ok(()) => 0,
+        Err(refusal) => u8::from(refusal),
     };
     write!(out, " {number}")
 }
 
-pub fn put_refusal(out: &mut impl Write, number: u8, left: usize) -> io::Result<()> {
-    write!(out, " refused {number}, left {left}")
+pub fn put_refusal(out: &mut impl Write, refused: Refused) -> io::Result<()> {
+    let Refused { refusal, left } = refused;
+    write!(out, " refused {}, left {left}", u8::from(refusal))
 }
 
 pub fn put_shape(out: &mut impl Write, f: Format) -> io::Result<()> {

@@ -3,6 +3,7 @@ use crate::ask::Ask;
 use crate::lent::{FILL, ROOM};
 use crate::line;
 use crate::walk::Record;
+use checks::Refused;
 use patchy::{Reading, Sizes};
 use std::io;
 use std::io::Write;
@@ -18,10 +19,10 @@ fn put_sizes(out: &mut impl Write, s: Sizes) -> io::Result<()> {
     )
 }
 
-fn put_reading(out: &mut impl Write, reading: Reading) -> io::Result<()> {
+fn put_reading(out: &mut impl Write, reading: Result<Reading, Refused>) -> io::Result<()> {
     match reading {
-        Reading::Refused(number, left) => line::put_refusal(out, number, left),
-        Reading::Picture(sizes, left) => {
+        Err(refused) => line::put_refusal(out, refused),
+        Ok(Reading { sizes, left }) => {
             put_sizes(out, sizes)?;
             write!(out, ", left {left}")
         }

@@ -119,12 +119,12 @@ impl Page<'_> {
         } = self.asked;
         write!(out, "page {page}          ")?;
         match logluv_tiff::inspect(self.file, page, limits, units) {
-            Inspected::Refused(number, left) => {
-                line::put_refusal(out, number, left)?;
+            Err(refused) => {
+                line::put_refusal(out, refused)?;
                 self.read_refused(out)?;
                 Ok(false)
             }
-            Inspected::Picture(handle, left) => {
+            Ok(Inspected { handle, left }) => {
                 strict_calls::put_handle(out, handle, left)?;
                 self.read_accepted(out, handle)?;
                 Ok(true)

@@ -3,7 +3,7 @@ use crate::ask::Ask;
 use crate::lent::{FILL, ROOM};
 use crate::line;
 use crate::walk::Record;
-use checks::{Size, Told};
+use checks::Refused;
 use handle::{Handle, Inspected};
 use header::Limits;
 use picture::Format;
@@ -19,10 +19,10 @@ pub fn put_handle(out: &mut impl Write, h: Handle, left: usize) -> io::Result<()
     )
 }
 
-fn put_told(out: &mut impl Write, told: Told) -> io::Result<()> {
+fn put_told(out: &mut impl Write, told: Result<usize, Refused>) -> io::Result<()> {
     match told {
-        Told::Refused(number, left) => line::put_refusal(out, number, left),
-        Told::Passed(left) => write!(out, " decoded, left {left}"),
+        Err(refused) => line::put_refusal(out, refused),
+        Ok(left) => write!(out, " decoded, left {left}"),
     }
 }
 
@@ -105,8 +105,8 @@ pub fn run_reading(out: &mut impl Write, record: Record) -> io::Result<()> {
         units,
     } = Ask::of(record.numbers);
     match logluv_tiff::inspect(record.file, page, limits, units) {
-        Inspected::Refused(number, left) => line::put_refusal(out, number, left),
-        Inspected::Picture(handle, left) => {
+        Err(refused) => line::put_refusal(out, refused),
+        Ok(Inspected { handle, left }) => {
             put_handle(out, handle, left)?;
             run_changed(out, record, handle)
         }
@@ -143,7 +143,7 @@ pub fn run_forged(out: &mut impl Write, record: Record) -> io::Result<()> {
 pub fn run_bound(out: &mut impl Write, record: Record) -> io::Result<()> {
     let Ask { page, limits, .. } = Ask::of(record.numbers);
     match work_limit::logluv_inspection_work_limit(page, limits) {
-        Size::Over => write!(out, " over"),
-        Size::Fits(units) => write!(out, " {units}"),
+        Some(units) => write!(out, " {units}"),
+        None => write!(out, " over"),
     }
 }
