@@ -5,13 +5,13 @@ use mathlib.Core.List.{List, [], ◌∷◌}
 use native.Mathlib.Omega.{arith}
 use lib.ListN.{length, take, drop, length-drop}
 use lib.Seq.{length-take-le}
-use Rattle.checks.specs.declared.Verdict.{Verdict}
 use Rattle.receiver.specs.declared.Receiver.{Receiver}
 use Rattle.trace.specs.declared.Next.{Next}
 use Rattle.trace.specs.declared.Next.TheVariants.{Foreign, Start, Block}
 use Rattle.trace.specs.Trace.{start, block, next_of}
 use Rattle.receiver.specs.Receiver.{lent, Answers}
 use Rattle.receiver.proofs.Replaying.{Replaying, replays, replaying_start, replaying_block}
+use Rattle.checks.specs.Numbers.{Verdict}
 
 -- where a byte begins no message there is one
 foreign_there : (t : List ℕ) → next_of t ≡ Foreign → 0 < length t

@@ -3,7 +3,7 @@ ghost use Rattle.std.specs.Prelude.{◌≡◌, ◌≤◌, length};
 ghost use Rattle.receiver.specs.Receiver.{lent, Replays};
 ghost use Rattle.replay.specs.Stops.{ending_of};
 
-use checks::{NO_SUCH_BLOCK, RECEIVER_TOO_SMALL, Verdict};
+use checks::Refusal;
 use receiver::{Received, Receiver};
 use trace::Next;
 
@@ -56,12 +56,10 @@ impl Progress {
             ..self
         };
         match received.answer {
-            Verdict::Fine => after.accepted = after.accepted.saturating_add(1),
-            Verdict::Refused(RECEIVER_TOO_SMALL) => {
-                after.too_long = after.too_long.saturating_add(1)
-            }
-            Verdict::Refused(NO_SUCH_BLOCK) => after.outside = after.outside.saturating_add(1),
-            Verdict::Refused(_) => after.wrong_size = after.wrong_size.saturating_add(1),
+            Ok(()) => after.accepted = after.accepted.saturating_add(1),
+            Err(Refusal::ReceiverTooSmall) => { after.too_long = after.too_long.saturating_add(1) }
+            Err(Refusal::NoSuchBlock) => after.outside = after.outside.saturating_add(1),
+            Err(_) => after.wrong_size = after.wrong_size.saturating_add(1),
         }
         after
     }
