@@ -8,9 +8,7 @@ ghost use Rattle.face_leaves.specs.Leaves.{WorkLimit, Predictor64, Predictor3};
 ghost use Rattle.trace.specs.Trace.{start, block};
 ghost use Rattle.face_receiver.specs.Reception.{Receive, Replay};
 
-use checks::{INVALID, Told};
-use handle::Inspected;
-use patchy::Reading;
+use checks::Refusal;
 
 // Strict inspection.
 pub fn chelmesut_inspect(
@@ -38,14 +36,14 @@ pub fn chelmesut_inspect(
         max_segments,
     );
     match logluv_tiff::inspect(file, page, limits, *budget) {
-        Inspected::Refused(e, u) => {
-            *budget = u;
-            face_words::wide(e)
-        }
-        Inspected::Picture(found, u) => {
-            *budget = u;
-            *handle = face_words::words_of(found);
+        Ok(found) => {
+            *budget = found.left;
+            *handle = face_words::words_of(found.handle);
             0
+        }
+        Err(refused) => {
+            *budget = refused.left;
+            face_words::word_of(refused.refusal)
         }
     }
 }
@@ -79,23 +77,20 @@ pub fn chelmesut_decode(
         max_segments,
     );
     // The inspection that the words are held to is not charged.
-    match logluv_tiff::inspect(file, page, limits, usize::MAX) {
-        Inspected::Refused(_, _) => face_words::wide(INVALID),
-        Inspected::Picture(found, _) => {
-            let words = face_words::words_of(found);
-            if !face_words::same_words(&words, handle) {
-                return face_words::wide(INVALID);
-            }
-            match logluv_tiff::show_inspected(file, found, *budget, output, scratch) {
-                Told::Refused(e, u) => {
-                    *budget = u;
-                    face_words::wide(e)
-                }
-                Told::Passed(u) => {
-                    *budget = u;
-                    0
-                }
-            }
+    let Ok(found) = logluv_tiff::inspect(file, page, limits, usize::MAX) else {
+        return face_words::word_of(Refusal::Invalid);
+    };
+    if !face_words::same_words(&face_words::words_of(found.handle), handle) {
+        return face_words::word_of(Refusal::Invalid);
+    }
+    match logluv_tiff::show_inspected(file, found.handle, *budget, output, scratch) {
+        Ok(rest) => {
+            *budget = rest;
+            0
+        }
+        Err(refused) => {
+            *budget = refused.left;
+            face_words::word_of(refused.refusal)
         }
     }
 }
@@ -132,21 +127,21 @@ pub fn chelmesut_read_patchy(
         max_segments,
     );
     match patchy::read(file, map, page, limits, *budget, output, scratch, quality) {
-        Reading::Refused(e, u) => {
-            *budget = u;
-            face_words::wide(e)
-        }
-        Reading::Picture(sizes, u) => {
-            *budget = u;
+        Ok(reading) => {
+            *budget = reading.left;
             *answer = [
-                sizes.width,
-                sizes.height,
-                sizes.block_width,
-                sizes.block_height,
-                sizes.segments,
-                sizes.channels,
+                reading.sizes.width,
+                reading.sizes.height,
+                reading.sizes.block_width,
+                reading.sizes.block_height,
+                reading.sizes.segments,
+                reading.sizes.channels,
             ];
             0
+        }
+        Err(refused) => {
+            *budget = refused.left;
+            face_words::word_of(refused.refusal)
         }
     }
 }

@@ -1,6 +1,6 @@
 -- The plain forms: each answer of the strict reader as what an image or a decode gives.
 use Prim.Native.Nat.{ℕ}
-use mathlib.Core.Path.{◌≡◌, refl, sym, ap, ◌∙◌}
+use mathlib.Core.Path.{◌≡◌, refl, ap, ◌∙◌}
 use mathlib.Core.List.{List, []}
 use lib.ListN.{length}
 use borrow.Author.Tests.{eq-eqb, ne_eqb}
@@ -8,13 +8,9 @@ use Rattle.checks.specs.Numbers.{number_of, invalid, told_number, told_left, Tol
 use Rattle.checks.specs.Checks.{run, on_pass}
 use Rattle.checks.proofs.Rules.{must_no, must_yes}
 use Rattle.seen.specs.Seen.{seen}
-use Rattle.header.specs.declared.Limits.{Limits}
-use Rattle.inspection.specs.Inspection.{inspected_of}
-use Rattle.handle.specs.Handle.{inspected_left}
 use Rattle.decoding.specs.Strict.{decode_checks, picture_over, cleared_over}
-use Rattle.handle.specs.declared.Inspected.{Inspected}
 use Rattle.checks.specs.declared.Refused.{Refused}
-use Rattle.plain_image.specs.Image.{refused, info_of, image_checks, image_decode_told, ImageInspected, ImageDecoded}
+use Rattle.plain_image.specs.Image.{image_checks, image_decode_told, ImageDecoded}
 use Rattle.image_info.specs.declared.Info.{Info}
 use Rattle.std.specs.Prelude.{Ok, Err}
 

@@ -1,66 +1,27 @@
--- Words that an inspection does not give are refused; those that it gives stand for a handle that can be shown.
-use Rattle.chelmesut.proofs.Faces.{decoding}
+-- Words that no inspection gives are refused; those that one gives are a handle, whose picture is shown.
+use borrow.Author.Rules.{rules}
+use borrow.Author.Tests.{not-true, not-false}
+use Rattle.chelmesut.proofs.Faces.{none_given, showable, words_differ, not_shown, shown_too}
 use Rattle.chelmesut.proofs.chelmesut_decode.Goals as goal
 
-pub limits_of-limits-requires : goal.limits_of-limits-requires
-limits_of-limits-requires c = search decoding
-
-pub inspect-requires : goal.inspect-requires
-inspect-requires c = search decoding
-
-pub enum_told-1 : goal.enum_told-1
-enum_told-1 c = search decoding
-
-pub wide-requires : goal.wide-requires
-wide-requires c = search decoding
-
-pub enum_known-found : goal.enum_known-found
-enum_known-found c = search decoding
-
-pub words_of-words-requires : goal.words_of-words-requires
-words_of-words-requires c = search decoding
-
-pub slice_bounds-same_words-end : goal.slice_bounds-same_words-end
-slice_bounds-same_words-end c = search decoding
-
-pub same_words-requires : goal.same_words-requires
-same_words-requires c = search decoding
-
-pub wide-requires-then-not-same_words : goal.wide-requires-then-not-same_words
-wide-requires-then-not-same_words c = search decoding
+pub returns-in_default : goal.returns-in_default
+returns-in_default c = none_given _ _ _ _ _ _ _ c.limits_of-limits.ensures c.in_default.ensures c.word_of.ensures
 
 pub returns-then-not-same_words : goal.returns-then-not-same_words
-returns-then-not-same_words c = search decoding
+returns-then-not-same_words c =
+    words_differ _ _ _ _ _ _ _ c.limits_of-limits.ensures c.in-Ok.ensures c.words_of.ensures c.same_words.ensures
+    (search (not-true, rules)) c.word_of-then-not-same_words.ensures
 
 pub show_inspected-requires : goal.show_inspected-requires
-show_inspected-requires c = search decoding
+show_inspected-requires c =
+    showable _ _ _ c.args.handle.now c.args.budget.now c.args.output.now c.args.scratch.now c.limits_of-limits.ensures c.in-Ok.ensures
 
-pub enum_known-e : goal.enum_known-e
-enum_known-e c = search decoding
+pub returns-in-Ok-show_inspected : goal.returns-in-Ok-show_inspected
+returns-in-Ok-show_inspected c =
+    shown_too _ _ _ _ _ _ _ c.limits_of-limits.ensures c.in-Ok.ensures c.words_of.ensures c.same_words.ensures (search (not-false, rules)) _ _
+    c.in-Ok-show_inspected.ensures.answer c.in-Ok-show_inspected.ensures.picture c.in-Ok-show_inspected.ensures.cleared
 
-pub wide-requires-in-Refused-show_inspected : goal.wide-requires-in-Refused-show_inspected
-wide-requires-in-Refused-show_inspected c = search decoding
-
-pub enum_known-u : goal.enum_known-u
-enum_known-u c = search decoding
-
-pub returns-in-Refused : goal.returns-in-Refused
-returns-in-Refused c = search decoding
-
-pub shape_of-output-in-Refused-show_inspected : goal.shape_of-output-in-Refused-show_inspected
-shape_of-output-in-Refused-show_inspected c = search decoding
-
-pub shape_of-scratch-in-Refused-show_inspected : goal.shape_of-scratch-in-Refused-show_inspected
-shape_of-scratch-in-Refused-show_inspected c = search decoding
-
-pub returns-in-Refused-show_inspected : goal.returns-in-Refused-show_inspected
-returns-in-Refused-show_inspected c = search decoding
-
-pub shape_of-output-in-Passed : goal.shape_of-output-in-Passed
-shape_of-output-in-Passed c = search decoding
-
-pub shape_of-scratch-in-Passed : goal.shape_of-scratch-in-Passed
-shape_of-scratch-in-Passed c = search decoding
-
-pub returns-in-Passed : goal.returns-in-Passed
-returns-in-Passed c = search decoding
+pub returns-in-Err : goal.returns-in-Err
+returns-in-Err c =
+    not_shown _ _ _ _ _ _ _ c.limits_of-limits.ensures c.in-Ok.ensures c.words_of.ensures c.same_words.ensures (search (not-false, rules)) _ _
+    c.in-Err.ensures.answer c.in-Err.ensures.picture c.in-Err.ensures.cleared c.word_of-in-Err.ensures
