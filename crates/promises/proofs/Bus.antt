@@ -2,16 +2,15 @@
 use Prim.Native.Nat.{ℕ}
 use mathlib.Core.Path.{◌≡◌, refl, sym, ap, ◌∙◌}
 use mathlib.Core.Logic.{◌↔◌}
-use mathlib.Core.List.{List, []}
-use mathlib.Core.Bool.{true}
+use mathlib.Core.List.{List}
 use lib.ListN.{length}
 use Rattle.checks.specs.Checks.{cost}
 use Rattle.checks.specs.Exact.{RefusedAt}
-use Rattle.checks.proofs.Exact.{refused_fine}
+use Rattle.checks.proofs.Exact.{refused_passed}
 use Rattle.checks.proofs.Refusals.{refused_free}
 use Rattle.receiver.specs.declared.Receiver.{Receiver}
 use Rattle.trace.specs.Trace.{Message, start, block, trace_of}
-use Rattle.receiver.specs.Receiver.{Reception, message_checks, answer_to, received, received_all}
+use Rattle.receiver.specs.Receiver.{Reception, message_checks, answer_to, received_all}
 use Rattle.promises.specs.Since.{LastStart, Kept}
 use Rattle.receiver.proofs.Receiving.{start_accepted, refused_leaves}
 use Rattle.promises.proofs.Since.{received_append, last_start, next_accepted, came_last, kept, block_before, idle_all}
@@ -19,13 +18,14 @@ use Rattle.trace.proofs.Written.{nothing_written, all_written, cut_written, fore
 use Rattle.face_receiver.specs.Reception.{receiver_of, receiver_words, lent_words, Replay}
 use Rattle.promises.specs.Bus.{Bus}
 use Rattle.std.specs.Prelude.{Err}
+use Rattle.checks.specs.declared.Refusal.{Refusal}
 
 no_charge : (m : Message) (s : Reception) → cost (message_checks m s) ≡ 0
 unfolding cost
 no_charge (start size) s = refl
 no_charge (block number bytes) s = refl
 
-refused_first : (m : Message) (s : Reception) (e : ℕ) → (answer_to m s ≡ Err e) ↔ RefusedAt (message_checks m s) 0 e 0
+refused_first : (m : Message) (s : Reception) (e : Refusal) → (answer_to m s ≡ Err e) ↔ RefusedAt (message_checks m s) 0 e 0
 unfolding answer_to
 refused_first m s e = refused_free (message_checks m s) e (no_charge m s)
 
@@ -46,7 +46,7 @@ bus = record {
   cut_ends = cut_written;
   foreign_ends = foreign_byte;
   refused_first = refused_first;
-  refused_leaves = λ m s e q. refused_leaves m s (λ f. refused_fine e (sym q ∙ f));
+  refused_leaves = λ m s e q. refused_leaves m s (λ f. refused_passed e tt (sym q ∙ f));
   none_before = λ s idle messages none number bytes.
       let same = idle_all s idle messages none in
       (same, ap (answer_to (block number bytes)) same ∙ block_before s idle number bytes);

@@ -21,7 +21,7 @@ use Rattle.showing.proofs.Showing.{pixel_shown, planes_length}
 use Rattle.inspection.specs.Inspection.{handle_of}
 use Rattle.decoding.specs.Strict.{picture_over, cleared_over}
 use Rattle.handle.specs.declared.Handle.{Handle}
-use Rattle.handle.specs.declared.Inspected.TheVariants.{Picture}
+use Rattle.handle.specs.Handle.{inspected_with}
 use Rattle.promises.specs.Strict.{Good, PictureFine, pixel_seen, Shows}
 use Rattle.promises.specs.StrictCall.{StrictCall, whole_view, decode_answer, decode_output, decode_scratch}
 use Rattle.promises.specs.StrictCall as strict
@@ -89,7 +89,7 @@ decode_shows c h w passed =
     )
 
 -- and inspection and decode in one call
-pub read_shows : (c : StrictCall) (h : Handle) (w : ℕ) → strict.answer c ≡ Picture h w
+pub read_shows : (c : StrictCall) (h : Handle) (w : ℕ) → strict.answer c ≡ Ok (inspected_with h w)
     → Shows (whole_view c) h c.output c.scratch (strict.output_then c) (strict.scratch_then c)
 read_shows c h w answered =
     let v = whole_view c in

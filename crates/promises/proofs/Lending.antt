@@ -8,7 +8,7 @@ use native.Mathlib.Nat.{mul-le-mul_right}
 use lib.Dec.{eqb}
 use lib.ListN.{length}
 use Rattle.lists.specs.Lists.{pick}
-use Rattle.checks.specs.Numbers.{truncated, Verdict, no_refusal}
+use Rattle.checks.specs.Numbers.{number_of, truncated, Verdict, no_refusal}
 use Rattle.checks.specs.Checks.{verdict}
 use Rattle.checks.proofs.Exact.{fine}
 use Rattle.seen.specs.Seen.{Seen}
@@ -17,7 +17,7 @@ use Rattle.directory.specs.Directory.{entries_at, slots_at}
 use Rattle.tiff.specs.Walk.{page_at}
 use Rattle.picture.specs.declared.Format.{Format}
 use Rattle.picture.specs.Picture.{scratch_of}
-use Rattle.plan.specs.Plan.{place_checks, offset_of, count_of, fee_of}
+use Rattle.plan.specs.Plan.{place_checks, stored_of, fee_of}
 use Rattle.logluv_segment.specs.Segment.{stored_checks}
 use Rattle.work_limit.specs.WorkLimit.{work_bound}
 use Rattle.quality.specs.Quality.{judged, charge_is, quality_is, segment_charge}
@@ -51,10 +51,10 @@ module _ (v : Seen) (f : Format) (maxInput maxOutput : ℕ) (small : v.size ≤ 
       lost false = omega arith
 
       by : (place packets : Verdict) → (place ≡ no_refusal → fee_of v f k ≤ maxInput + 2 * maxOutput + 1)
-          → charge_is (judged place packets (offset_of v f k) (count_of v f k)) (fee_of v f k) ≤ maxInput + 2 * maxOutput + 1
-      by (Ok x) (Ok x) fee = fee refl
+          → charge_is (judged place packets (stored_of v f k)) (fee_of v f k) ≤ maxInput + 2 * maxOutput + 1
+      by (Ok x) (Ok y) fee = fee refl
       by (Ok x) (Err n) fee = fee refl
-      by (Err n) packets fee = lost (eqb n truncated)
+      by (Err n) packets fee = lost (eqb (number_of n) (number_of truncated))
 
   segments_most : (n k : ℕ) → k + n ≤ f.segments → charges_of v f k n ≤ n * most
   unfolding charges_of

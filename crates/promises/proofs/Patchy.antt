@@ -11,7 +11,7 @@ use lib.ListN.{length, replicate, length-replicate}
 use Rattle.lists.proofs.Overlay.{length_span, overlay_length}
 use borrow.Author.Tests.{leb-true, le-leb}
 use Rattle.head.specs.Heads.{channels_of}
-use Rattle.checks.specs.Numbers.{limit, output_too_small, leaving}
+use Rattle.checks.specs.Numbers.{number_of, limit, output_too_small, leaving}
 use Rattle.checks.specs.Checks.{run, Holds, cost, Never}
 use Rattle.checks.specs.Exact.{Exact, RefusedAt}
 use Rattle.checks.proofs.Exact.{accepted, both, cost_then, never_both}
@@ -31,12 +31,13 @@ use Rattle.admission.specs.Admission.{picture_charge, buffer_checks, patchy_chec
 use Rattle.admission.specs.Inner.{room_checks, charge_checks, admit_checks}
 use Rattle.patchy.specs.declared.Sizes.{Sizes}
 use Rattle.patchy.specs.declared.Reading.{Reading}
-use Rattle.patchy.specs.declared.Reading.TheVariants.{Refused, Picture}
 use Rattle.patchy.proofs.Answers.{picture_told, refusal_told}
 use Rattle.promises.specs.Patchy.{Call, view, page_format, room, checks, Answered, RefusedWith, answer, output_then, scratch_then, quality_then, ReadFine, reading_charge, Reads}
 use Rattle.promises.proofs.Strict.{page_is_fine}
 use Rattle.promises.proofs.Numbers.{told_numbered}
-use Rattle.std.specs.Prelude.{Err}
+use Rattle.std.specs.Prelude.{Result, Ok, Err}
+use Rattle.checks.specs.declared.Refusal.{Refusal}
+use Rattle.checks.specs.declared.Refused.{Refused}
 
 module _ (c : Call) where
   -- what the format asks for, without order
@@ -120,7 +121,7 @@ module _ (c : Call) where
   -- it answers with these sizes and leaves w units exactly if each test holds and the charge is covered, and no more is charged
   pub reading_exact : (s : Sizes) (w : ℕ) → (Answered c s w) ↔ Reads c s w
   reading_exact s w = (
-    λ e. let p = picture_told (run (checks c) c.units) (page_format c) s w e in reads s w ((accepted (checks c) c.units w).0 p.0) p.1,
+    λ e. let p = picture_told (run (checks c) c.units) (page_format c) e in reads s w ((accepted (checks c) c.units w).0 p.0) p.1,
     λ r. rw ((accepted (checks c) c.units w).1 (is_exact s w r), r.sizes_are),
   )
 
@@ -135,15 +136,15 @@ module _ (c : Call) where
     ),
   )
 
-  told_refused : (e w : ℕ) → RefusedWith c e w → run (checks c) c.units ≡ Err (leaving e w)
-  told_refused e w q = refusal_told (run (checks c) c.units) (page_format c) e w q
+  told_refused : (e : Refusal) (w : ℕ) → RefusedWith c e w → run (checks c) c.units ≡ Err (leaving e w)
+  told_refused e w q = refusal_told (run (checks c) c.units) (page_format c) q
 
   -- a number outside of 1 to 9 is given by no check
   module _ (number : ℕ) (other : (0 < number) × (number ≤ 9) → ⊥) where
-    over : {b : Bool} → limit ≡ number → b ≡ true
+    over : {b : Bool} → number_of limit ≡ number → b ≡ true
     over z = absurd (other (omega arith, omega arith))
 
-    short : {b : Bool} → output_too_small ≡ number → b ≡ true
+    short : {b : Bool} → number_of output_too_small ≡ number → b ≡ true
     short z = absurd (other (omega arith, omega arith))
 
     never_other : Never number (checks c)
@@ -161,16 +162,16 @@ module _ (c : Call) where
         (over, (short, (short, (short, (over, (λ z. other (omega arith, omega arith), tt))))))))
 
   -- so a refusal has one of these numbers
-  pub reading_numbered : (e w : ℕ) → RefusedWith c e w → (0 < e) × (e ≤ 9)
+  pub reading_numbered : (e : Refusal) (w : ℕ) → RefusedWith c e w → (0 < number_of e) × (number_of e ≤ 9)
   reading_numbered e w q = told_numbered 9 (checks c) never_other c.units e w (told_refused e w q)
 
   -- so an answer's number is 0 exactly if it is a picture
   pub reading_number_lem : (reading_number (answer c) ≡ 0) ↔ ((s : Sizes) × (w : ℕ) × (Answered c s w))
   reading_number_lem = (λ z. by (answer c) refl z, λ (s, w, e). rw e)
     where
-      by : (r : Reading) → answer c ≡ r → reading_number r ≡ 0 → (s : Sizes) × (w : ℕ) × (Answered c s w)
-      by (Picture s w) e z = (s, w, e)
-      by (Refused n w) e z = let p = reading_numbered n w e in absurd (omega (arith, p.0))
+      by : (r : Result Reading Refused) → answer c ≡ r → reading_number r ≡ 0 → (s : Sizes) × (w : ℕ) × (Answered c s w)
+      by (Ok r) e z = (r.sizes, r.left, e)
+      by (Err r) e z = let p = reading_numbered r.refusal r.left e in absurd (omega (arith, p.0))
 
   -- an answer has the number 0, five sizes of the page's format and the channels of its head as its values, and the units less the charge
   pub reading_values_lem : (s : Sizes) (w : ℕ) → Answered c s w
@@ -184,11 +185,11 @@ module _ (c : Call) where
       rw e (refl, (rw r.sizes_are, r.rest))
 
   -- it refuses exactly with the number of the first check that fails: the charges before stay taken, one that fails is not taken
-  pub reading_refused : (e w : ℕ) → RefusedWith c e w ↔ RefusedAt (checks c) c.units e w
+  pub reading_refused : (e : Refusal) (w : ℕ) → RefusedWith c e w ↔ RefusedAt (checks c) c.units e w
   reading_refused e w = Iff.trans (told_refused e w, λ q. rw q) (refused (checks c) c.units e w)
 
   -- a refusal leaves output and scratch as they were, and every quality byte 0
-  pub refused_leaves : (e w : ℕ) → RefusedWith c e w → (output_then c ≡ c.output)
+  pub refused_leaves : (e : Refusal) (w : ℕ) → RefusedWith c e w → (output_then c ≡ c.output)
       × ((scratch_then c ≡ c.scratch) × (quality_then c ≡ replicate (length c.quality) 0))
   refused_leaves e w q = rw q (refl, (refl, refl))
 
@@ -197,13 +198,13 @@ module _ (c : Call) where
       × ((length (scratch_then c) ≡ length c.scratch) × (length (quality_then c) ≡ length c.quality))
   lengths_stay = by (answer c) refl
     where
-      by : (r : Reading) → answer c ≡ r
+      by : (r : Result Reading Refused) → answer c ≡ r
           → (length (output_after (view c) c.page r c.output) ≡ length c.output)
           × ((length (scratch_after (view c) c.page r c.scratch) ≡ length c.scratch)
           × (length (quality_after (view c) c.page r c.quality) ≡ length c.quality))
-      by (Refused e w) q = (refl, (refl, length-replicate (length c.quality) 0))
-      by (Picture s w) q =
-          let fine = ((reading_exact s w).0 q).fine.lent_fine in
+      by (Err r) q = (refl, (refl, length-replicate (length c.quality) 0))
+      by (Ok r) q =
+          let fine = ((reading_exact r.sizes r.left).0 q).fine.lent_fine in
           let zeros = length-replicate {A = ℕ} (length c.quality) 0 in (
             overlay_length _ _ (omega (arith, picture_length (page_format c) (shows_of (view c) (page_format c)), fine.output_holds)),
             (

@@ -11,14 +11,16 @@ use Rattle.checks.specs.Sizes.{most64}
 use Rattle.seen.specs.Seen.{Seen}
 use Rattle.header.specs.declared.Limits.{Limits}
 use Rattle.inspection.specs.Inspection.{handle_of, inspect_checks, inspected_of}
-use Rattle.handle.specs.Handle.{inspected}
+use Rattle.handle.specs.Handle.{inspected, inspected_with}
 use Rattle.decoding.specs.Strict.{show_checks, decode_checks, both_checks, both_of}
 use Rattle.handle.specs.declared.Handle.{Handle}
-use Rattle.handle.specs.declared.Inspected.TheVariants.{Refused, Picture}
 use Rattle.handle.proofs.Answers.{inspected_picture}
 use Rattle.promises.specs.Strict.{PictureFine, inspection_charge, ReadsPage}
 use Rattle.promises.proofs.Strict.{picture_fine, picture_cost, inspection_exact, told_passed, told_refused}
 use Rattle.promises.proofs.Handles.{show_fine, handle_exact, handle_given}
+use Rattle.checks.specs.Numbers.{leaving}
+use Rattle.checks.specs.declared.Refusal.{Refusal}
+use Rattle.std.specs.Prelude.{Ok, Err}
 
 module _ (v : Seen) (page : ℕ) (l : Limits) (output scratch : ℕ) where
   read_fine : Holds (both_checks v page l output scratch)
@@ -55,7 +57,7 @@ module _ (v : Seen) (page : ℕ) (l : Limits) (output scratch : ℕ) where
         }
 
     -- it succeeds exactly if the picture is fine, the buffers hold it, and the units cover both charges, and no more is charged
-    pub read_exact : (h : Handle) → (both_of v page l output scratch u ≡ Picture h w) ↔ ReadsPage v page l output scratch u w h
+    pub read_exact : (h : Handle) → (both_of v page l output scratch u ≡ Ok (inspected_with h w)) ↔ ReadsPage v page l output scratch u w h
     read_exact h = (
       λ e.
           let p = inspected_picture (run (both_checks v page l output scratch) u) (handle_of v page) h w e in
@@ -64,7 +66,7 @@ module _ (v : Seen) (page : ℕ) (l : Limits) (output scratch : ℕ) where
     )
 
   -- what the inspection gives is decoded with the units that it left
-  pub read_as_two : (u x : ℕ) (h : Handle) → inspected_of v page l u ≡ Picture h x → u ≤ most64 → both_of v page l output scratch u
+  pub read_as_two : (u x : ℕ) (h : Handle) → inspected_of v page l u ≡ Ok (inspected_with h x) → u ≤ most64 → both_of v page l output scratch u
       ≡ inspected (run (decode_checks v l h output scratch) x) h
   unfolding run both_checks
   read_as_two u x h gave units =
@@ -72,6 +74,6 @@ module _ (v : Seen) (page : ℕ) (l : Limits) (output scratch : ℕ) where
       rw (passed, (handle_exact v l h).1 (handle_given v l page u x h gave units), ((inspection_exact v page l u x h).0 gave).handle_is)
 
   -- and a refusal of the inspection is the answer
-  pub read_refused_early : (u e x : ℕ) → inspected_of v page l u ≡ Refused e x → both_of v page l output scratch u ≡ Refused e x
+  pub read_refused_early : (u : ℕ) (e : Refusal) (x : ℕ) → inspected_of v page l u ≡ Err (leaving e x) → both_of v page l output scratch u ≡ Err (leaving e x)
   unfolding both_checks
-  read_refused_early u e x q = rw (stops (inspect_checks v page l) (show_checks (handle_of v page) output scratch) u e x (told_refused v page l u x e q))
+  read_refused_early u e x q = rw (stops (inspect_checks v page l) (show_checks (handle_of v page) output scratch) u (leaving e x) (told_refused v page l u x e q))

@@ -9,7 +9,7 @@ use mathlib.Core.Bool.{true}
 use native.Mathlib.Omega.{arith}
 use native.Mathlib.Nat.{eq-or-lt_of_le}
 use borrow.Author.Tests.{leb-true, le-leb}
-use Rattle.checks.specs.Numbers.{truncated, invalid, limit, budget, not_arrived}
+use Rattle.checks.specs.Numbers.{number_of, truncated, invalid, limit, budget, not_arrived}
 use Rattle.checks.specs.Checks.{pay, Holds, Never}
 use Rattle.checks.proofs.Exact.{both, never_both}
 use Rattle.checks.specs.Sizes.{most64}
@@ -113,7 +113,7 @@ module _ (number : ℕ) (unusual : Unusual number) where
     ),
   )
 
-  module _ (v : Seen) (all_came : not_arrived ≡ number → (start n : ℕ) → whole v.came start n ≡ true) (f : Format) where
+  module _ (v : Seen) (all_came : number_of not_arrived ≡ number → (start n : ℕ) → whole v.came start n ≡ true) (f : Format) where
     never_place : (k : ℕ) → Never number (place_checks v f k)
     unfolding place_checks
     never_place k =
@@ -135,7 +135,7 @@ module _ (number : ℕ) (unusual : Unusual number) where
           never_both number (plan_checks v f maxOutput k) (pay (fee_of v f k) ∷ stored_checks v f k)
           (never_both number (place_checks v f k) (area_checks v f maxOutput k) (never_place k)
           (not_given number unusual limit (omega arith) (omega arith), (not_given number unusual limit (omega arith) (omega arith), tt)))
-          (unusual budget (omega arith) (omega arith), never_stored k)
+          (unusual (number_of budget) (omega arith) (omega arith), never_stored k)
 
       pub never_segments : (n k : ℕ) → Never number (each_segment v f maxOutput k n)
       unfolding Never each_segment

@@ -14,7 +14,7 @@ use Rattle.lists.proofs.Lesser.{lesser_min}
 use Rattle.lists.proofs.Overlay.{only_zeros}
 use Rattle.lists.proofs.Spread.{put_length, put_in, put_before, put_after}
 use Rattle.checks.specs.Numbers.{no_such_block, Verdict, no_refusal}
-use Rattle.checks.proofs.Exact.{refused_fine}
+use Rattle.checks.proofs.Exact.{refused_passed}
 use Rattle.seen.specs.Seen.{blocks_in, block_start, block_length, block_came, also_came, none_came}
 use Rattle.seen.proofs.Blocks.{true_false}
 use Rattle.seen.proofs.Arrivals.{also_length, also_came_lem, also_byte, also_other, none_came_lem}
@@ -133,7 +133,7 @@ module _ (size file map : ℕ) (fit : Suffice size file map) where
       where
         by : (v : Verdict) → answer_to (block b bytes) s ≡ v → Step size s (block b bytes)
         by (Ok x) e = placed b bytes ((block_answered b bytes).0 e) (fine_takes (block b bytes) s e)
-        by (Err n) e = nothing (block b bytes) (refused_leaves (block b bytes) s (λ f. refused_fine n (sym e ∙ f)))
+        by (Err n) e = nothing (block b bytes) (refused_leaves (block b bytes) s (λ f. refused_passed n tt (sym e ∙ f)))
 
     during_next : (m : Message) → Step size s m → During size file map (received m s)
     during_next _ (nothing m e) = rw e d
@@ -336,7 +336,7 @@ module _ (s : Reception) where
     where
       by : (v : Verdict) → answer_to m s ≡ v → SameLengths (received m s)
       by (Ok x) e = subst SameLengths (sym (fine_takes m s e)) (lengths_accepted m e)
-      by (Err n) e = subst SameLengths (sym (refused_leaves m s (λ f. refused_fine n (sym e ∙ f)))) (refl, refl)
+      by (Err n) e = subst SameLengths (sym (refused_leaves m s (λ f. refused_passed n tt (sym e ∙ f)))) (refl, refl)
 
 pub lengths_all : (messages : List Message) (s : Reception) → SameLengths s (received_all messages s)
 unfolding received_all
@@ -445,7 +445,7 @@ module _ (s : Reception) (idle : s.receiver.started ≡ false) where
       refused_leaves (start n) s
       (λ e. none (record { size = n; among = among_first (start n) rest; suffices = (start_accepted s n).0 e }))
   idle_leaves (block b bytes) rest none =
-      refused_leaves (block b bytes) s (λ e. refused_fine no_such_block (sym (block_before b bytes) ∙ e))
+      refused_leaves (block b bytes) s (λ e. refused_passed no_such_block tt (sym (block_before b bytes) ∙ e))
 
   pub idle_all : (messages : List Message) → (StartAmong (length s.file) (length s.map) messages → ⊥) → received_all messages s ≡ s
   unfolding received_all

@@ -8,7 +8,7 @@ use mathlib.Core.List.{List, []}
 use mathlib.Core.Bool.{true}
 use native.Mathlib.Omega.{arith}
 use borrow.Author.Tests.{leb-true, le-leb, ltb-true, lt-ltb}
-use Rattle.checks.specs.Numbers.{limit, not_arrived, leaving}
+use Rattle.checks.specs.Numbers.{number_of, limit, not_arrived, leaving}
 use Rattle.checks.specs.Checks.{run, Holds, cost, Never}
 use Rattle.checks.specs.Exact.{Exact, RefusedAt}
 use Rattle.checks.proofs.Exact.{accepted, both, cost_then, never, never_both}
@@ -27,12 +27,13 @@ use Rattle.picture.specs.Inner.{Valid, Readable}
 use Rattle.inspection.specs.Inspection.{segments_checks, handle_of, inspect_checks, inspected_of}
 use Rattle.inspection.specs.Inner.{picture_checks}
 use Rattle.handle.specs.declared.Handle.{Handle}
-use Rattle.handle.specs.declared.Inspected.TheVariants.{Refused, Picture}
+use Rattle.handle.specs.Handle.{inspected_with}
 use Rattle.handle.proofs.Answers.{inspected_picture, inspected_refused}
 use Rattle.promises.specs.Strict.{PageFine, PictureFine, inspection_charge, Inspects}
 use Rattle.logluv_segment.proofs.Fees.{segments_cost}
 use Rattle.promises.proofs.Segments.{segments_fine, never_segments}
 use Rattle.std.specs.Prelude.{Ok, Err}
+use Rattle.checks.specs.declared.Refusal.{Refusal}
 
 module _ (v : Seen) (page : ℕ) (l : Limits) where
   limits_fine : Holds (limit_checks v.size page l) ↔ ((v.size ≤ l.max_input) × (page < l.max_directories))
@@ -89,7 +90,7 @@ module _ (v : Seen) (page : ℕ) (l : Limits) where
     is_exact h i = record { holds = picture_fine.1 i.fine; covered = omega (arith, picture_cost, i.covered); rest = i.rest ∙ rw picture_cost }
 
     -- it succeeds exactly if nothing that refuses is met, and has then charged the directories, 128 and the sum of fees, no more
-    pub inspection_exact : (h : Handle) → (inspected_of v page l u ≡ Picture h w) ↔ Inspects v page l u w h
+    pub inspection_exact : (h : Handle) → (inspected_of v page l u ≡ Ok (inspected_with h w)) ↔ Inspects v page l u w h
     inspection_exact h = (
       λ e.
           let p = inspected_picture (run (inspect_checks v page l) u) (handle_of v page) h w e in
@@ -97,18 +98,18 @@ module _ (v : Seen) (page : ℕ) (l : Limits) where
       λ i. rw ((accepted (inspect_checks v page l) u w).1 (is_exact h i), i.handle_is),
     )
 
-    pub told_passed : (h : Handle) → inspected_of v page l u ≡ Picture h w → run (inspect_checks v page l) u ≡ Ok w
+    pub told_passed : (h : Handle) → inspected_of v page l u ≡ Ok (inspected_with h w) → run (inspect_checks v page l) u ≡ Ok w
     told_passed h q = (inspected_picture (run (inspect_checks v page l) u) (handle_of v page) h w q).0
 
-    pub told_refused : (e : ℕ) → inspected_of v page l u ≡ Refused e w → run (inspect_checks v page l) u ≡ Err (leaving e w)
+    pub told_refused : (e : Refusal) → inspected_of v page l u ≡ Err (leaving e w) → run (inspect_checks v page l) u ≡ Err (leaving e w)
     told_refused e q = inspected_refused (run (inspect_checks v page l) u) (handle_of v page) e w q
 
     -- it refuses exactly with the number of the first check that fails: the charges before stay taken, one that fails is not taken
-    pub inspection_refused : (e : ℕ) → (inspected_of v page l u ≡ Refused e w) ↔ RefusedAt (inspect_checks v page l) u e w
+    pub inspection_refused : (e : Refusal) → (inspected_of v page l u ≡ Err (leaving e w)) ↔ RefusedAt (inspect_checks v page l) u e w
     inspection_refused e = Iff.trans (told_refused e, λ q. rw q) (refused (inspect_checks v page l) u e w)
 
   -- so it answers exactly if the picture is fine and the units cover the charge
-  pub inspection_answers : (u : ℕ) → ((h : Handle) × (w : ℕ) × (inspected_of v page l u ≡ Picture h w))
+  pub inspection_answers : (u : ℕ) → ((h : Handle) × (w : ℕ) × (inspected_of v page l u ≡ Ok (inspected_with h w)))
       ↔ (PictureFine v page l × (inspection_charge v page ≤ u))
   inspection_answers u = (
     λ (h, w, e). let i = (inspection_exact u w h).0 e in (i.fine, i.covered),
@@ -120,7 +121,7 @@ module _ (v : Seen) (page : ℕ) (l : Limits) where
   )
 
 -- a number that is none of 1 to 7 is given by no check, and 8 only for bytes that did not come
-pub never_inspect : (number : ℕ) → Unusual number → (v : Seen) → (not_arrived ≡ number → (start n : ℕ) → whole v.came start n ≡ true)
+pub never_inspect : (number : ℕ) → Unusual number → (v : Seen) → (number_of not_arrived ≡ number → (start n : ℕ) → whole v.came start n ≡ true)
     → (page : ℕ) (l : Limits) → Never number (inspect_checks v page l)
 unfolding Never inspect_checks picture_checks segments_checks
 never_inspect number unusual v all_came page l =
@@ -131,8 +132,8 @@ never_inspect number unusual v all_came page l =
     (never_segments number unusual v all_came f l.max_output f.segments 0))
 
 -- of a file that came whole nothing is missing
-pub never_missing_strict : (file : List ℕ) (page : ℕ) (l : Limits) (u w : ℕ) → inspected_of (seen file []) page l u ≡ Refused not_arrived w → ⊥
+pub never_missing_strict : (file : List ℕ) (page : ℕ) (l : Limits) (u w : ℕ) → inspected_of (seen file []) page l u ≡ Err (leaving not_arrived w) → ⊥
 never_missing_strict file page l u w q =
     let v = seen file [] in
-    never not_arrived (inspect_checks v page l) u w (never_inspect not_arrived missing_unusual v (λ z. whole_came file) page l)
-    (told_refused v page l u w not_arrived q)
+    never 8 (inspect_checks v page l) u (leaving not_arrived w) (never_inspect 8 missing_unusual v (λ z. whole_came file) page l)
+    (told_refused v page l u w not_arrived q) refl

@@ -14,21 +14,22 @@ use Rattle.picture.specs.Picture.{picture_of}
 use Rattle.picture.proofs.Pictures.{picture_length}
 use Rattle.header.specs.declared.Limits.{Limits}
 use Rattle.quality.specs.Quality.{shows_of}
-use Rattle.patchy.specs.Patchy.{reading_of, quality_after}
+use Rattle.patchy.specs.Patchy.{reading_with, reading_of, quality_after}
 use Rattle.admission.specs.declared.Room.{Room}
 use Rattle.patchy.specs.declared.Sizes.{Sizes}
 use Rattle.patchy.specs.declared.Reading.{Reading}
-use Rattle.patchy.specs.declared.Reading.TheVariants.{Picture}
 use Rattle.promises.specs.Patchy.{Call, view, page_format, room, answer, output_then, Alike, SameOutcome}
 use Rattle.promises.proofs.Strict.{page_valid}
 use Rattle.promises.proofs.Patchy.{reading_exact}
+use Rattle.checks.specs.declared.Refused.{Refused}
+use Rattle.std.specs.Prelude.{Result, Ok}
 
 -- the picture that is seen in a page
 abbrev picture_seen : Seen → ℕ → List ℕ
 picture_seen v page = picture_of (format_seen v page) (shows_of v (format_seen v page))
 
 -- where there is a picture it is the front of the output
-picture_front : (c : Call) (s : Sizes) (w : ℕ) → answer c ≡ Picture s w
+picture_front : (c : Call) (s : Sizes) (w : ℕ) → answer c ≡ Ok (reading_with s w)
     → take (2 * s.channels * (s.width * s.height)) (output_then c) ≡ picture_seen (view c) c.page
 unfolding overlay
 picture_front c s w e =
@@ -42,7 +43,7 @@ module _ (v w : Seen) (p q : ℕ) (same_view : v ≡ w) (same_page : p ≡ q) wh
   same_answer : (m n : ℕ) (k l : Limits) (r s : Room) (t u : ℕ) → m ≡ n → k ≡ l → r ≡ s → t ≡ u → reading_of v m p k r t ≡ reading_of w n q l s u
   same_answer m n k l r s t u a b c d = rw (same_view, same_page, a, b, c, d)
 
-  same_marks : (r s : Reading) (x y : List ℕ) → r ≡ s → length x ≡ length y → quality_after v p r x ≡ quality_after w q s y
+  same_marks : (r s : Result Reading Refused) (x y : List ℕ) → r ≡ s → length x ≡ length y → quality_after v p r x ≡ quality_after w q s y
   same_marks r s x y a b = rw (same_view, same_page, a, b)
 
 -- two calls that differ in nothing but bytes that did not come and what the buffers held have the same outcome

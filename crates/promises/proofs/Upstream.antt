@@ -8,7 +8,7 @@ use native.Mathlib.Nat.{div-one, div-eq_of_lt}
 use borrow.Author.Tests.{leb-true}
 use Rattle.lists.specs.Lists.{lesser}
 use Rattle.checks.specs.Checks.{Check, run, verdict, Holds, cost}
-use Rattle.checks.proofs.Exact.{accepted, fine, holds_then, cost_then, stops, run_refused}
+use Rattle.checks.proofs.Exact.{accepted, fine, holds_then, cost_then, stops, run_refused, same_refused}
 use Rattle.checks.proofs.Refusals.{refused}
 use Rattle.checks.specs.Sizes.{most64}
 use Rattle.seen.specs.Seen.{Seen}
@@ -30,7 +30,7 @@ use Rattle.logluv_segment.proofs.Fees.{segment_cost}
 use Rattle.inspection.specs.Inspection.{work_of, handle_of, inspected_of, is_handle}
 use Rattle.work_limit.specs.WorkLimit.{work_bound}
 use Rattle.handle.specs.declared.Handle.{Handle}
-use Rattle.handle.specs.declared.Inspected.TheVariants as InspectedIs
+use Rattle.handle.specs.Handle.{inspected_with}
 use Rattle.promises.specs.Upstream.{WellFormed}
 use Rattle.promises.specs.Strict.{SegmentFine, PictureFine, inspection_charge, Inspects, Largest}
 use Rattle.promises.proofs.Segments.{place_fine, segment_fine}
@@ -39,6 +39,7 @@ use Rattle.promises.proofs.Bounds.{fee_bound, bound_covers, scratch_given}
 use Rattle.promises.proofs.Handles.{given_inspected, handle_exact}
 use Rattle.checks.specs.Numbers.{Verdict, no_refusal, leaving}
 use Rattle.std.specs.Prelude.{Ok, Err}
+use Rattle.checks.specs.declared.Refusal.{Refusal}
 
 -- of strips there is one across, so strip k begins at row k × block height
 pub strip_rows : (f : Format) → Valid f → f.tiled ≡ false → (k : ℕ) → rows_in f k ≡ lesser (f.height - k * f.block_height) f.block_height
@@ -58,11 +59,8 @@ fees_more v f (suc n) k = let z : k + suc n ≡ suc k + n = omega arith in rw z 
 pub passed_less : (cs : List Check) (u w : ℕ) → run cs u ≡ Ok w → w ≤ u
 passed_less cs u w e = omega (arith, ((accepted cs u w).0 e).rest)
 
-pub refused_less : (cs : List Check) (u e w : ℕ) → run cs u ≡ Err (leaving e w) → w ≤ u
+pub refused_less : (cs : List Check) (u : ℕ) (e : Refusal) (w : ℕ) → run cs u ≡ Err (leaving e w) → w ≤ u
 refused_less cs u e w q = omega (arith, ((refused cs u e w).0 q).rest)
-
-same_left : (n u e w : ℕ) → Err (leaving n u) ≡ Err (leaving e w) → w ≡ u
-same_left n u e w q = cc
 
 -- one segment: what it charges is bounded, and with so many units a fine one passes
 module _ (v : Seen) (f : Format) (maxInput maxOutput k : ℕ) (small : v.size ≤ maxInput) where
@@ -84,7 +82,7 @@ module _ (v : Seen) (f : Format) (maxInput maxOutput k : ℕ) (small : v.size �
       omega (arith, ((place_fine v f k).0 x.0).1.1.in_file, leb-true (scratch_for f.mono (area_of f k)) maxOutput x.1.0)
 
   -- and whatever it answers, it has charged no more than that
-  pub segment_charges : (u e w : ℕ) → run (segment_checks v f maxOutput k) u ≡ Err (leaving e w) → u - w ≤ maxInput + 2 * maxOutput + 1
+  pub segment_charges : (u : ℕ) (e : Refusal) (w : ℕ) → run (segment_checks v f maxOutput k) u ≡ Err (leaving e w) → u - w ≤ maxInput + 2 * maxOutput + 1
   unfolding segment_checks
   segment_charges u e w q = by (verdict (plan_checks v f maxOutput k)) refl
     where
@@ -95,9 +93,8 @@ module _ (v : Seen) (f : Format) (maxInput maxOutput k : ℕ) (small : v.size �
           ∙ cost_then r.before (r.check ∷ r.after) in
           omega (arith, r.rest, r.covered, c, segment_cost v f maxOutput k, planned_fee t)
       by (Err n) t =
-          let s = stops (plan_checks v f maxOutput k) (fee_checks v f k) u n u (run_refused (plan_checks v f maxOutput k) u n (plan_free v f maxOutput k) t) in
-          let z : w ≡ u = same_left n u e w (sym s ∙ q) in
-          omega arith
+          let s = stops (plan_checks v f maxOutput k) (fee_checks v f k) u (leaving n u) (run_refused (plan_checks v f maxOutput k) u n (plan_free v f maxOutput k) t) in
+          omega (arith, (same_refused (leaving n u) (leaving e w) (sym s ∙ q)).1)
 
 pub output_small : (v : Seen) (b : Bool) (entries : ℕ) (slots : List ℕ) (l : Limits) → ProfileFine v b slots l
     → (format_of v b entries slots).output ≤ l.max_output
@@ -111,16 +108,16 @@ output_small v b entries slots l p = by (present (entry_in slots tile_offsets))
 module _ (v : Seen) (page : ℕ) (l : Limits) where
   -- inspection succeeds where the units reach upstream's bound
   pub inspection_succeeds : (u : ℕ) → PictureFine v page l → work_bound page l ≤ u → inspected_of v page l u
-      ≡ InspectedIs.Picture (handle_of v page) (u - inspection_charge v page)
+      ≡ Ok (inspected_with (handle_of v page) (u - inspection_charge v page))
   inspection_succeeds u p enough =
       (inspection_exact v page l u (u - inspection_charge v page) (handle_of v page)).1
       (record { fine = p; covered = omega (arith, bound_covers v page l p); rest = refl; handle_is = refl })
 
   module _ (u w : ℕ) where
-    pub inspection_less : (h : Handle) → inspected_of v page l u ≡ InspectedIs.Picture h w → w ≤ u
+    pub inspection_less : (h : Handle) → inspected_of v page l u ≡ Ok (inspected_with h w) → w ≤ u
     inspection_less h e = omega (arith, ((inspection_exact v page l u w h).0 e).rest)
 
-    pub refusal_less : (e : ℕ) → inspected_of v page l u ≡ InspectedIs.Refused e w → w ≤ u
+    pub refusal_less : (e : Refusal) → inspected_of v page l u ≡ Err (leaving e w) → w ≤ u
     refusal_less e q = omega (arith, ((inspection_refused v page l u w e).0 q).rest)
 
     -- output and scratch are within max_output

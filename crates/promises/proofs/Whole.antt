@@ -16,12 +16,11 @@ use Rattle.logluv_segment.proofs.Fees.{fee_below}
 use Rattle.picture.proofs.Pictures.{same_picture}
 use Rattle.inspection.specs.Inspection.{handle_of, inspected_of}
 use Rattle.handle.specs.declared.Handle.{Handle}
-use Rattle.handle.specs.declared.Inspected.TheVariants as InspectedIs
+use Rattle.handle.specs.Handle.{inspected_with}
 use Rattle.quality.specs.Quality.{shows_of}
 use Rattle.patchy.specs.Patchy.{sizes_of}
 use Rattle.admission.specs.Admission.{charges_of, picture_charge}
 use Rattle.patchy.specs.declared.Sizes.{Sizes}
-use Rattle.patchy.specs.declared.Reading.TheVariants.{Picture}
 use Rattle.promises.specs.Strict.{Good, Inspects}
 use Rattle.promises.specs.Patchy.{Call, view, page_format, Answered, MarkedGood, output_then, Reads, Suffices}
 use Rattle.promises.proofs.Strict.{page_valid, inspection_exact}
@@ -29,6 +28,7 @@ use Rattle.promises.proofs.Bounds.{scratch_largest}
 use Rattle.promises.proofs.Patchy.{reading_exact}
 use Rattle.promises.proofs.Marks.{quality_good}
 use Rattle.promises.proofs.Codes.{good_charged, good_shown}
+use Rattle.std.specs.Prelude.{Ok}
 
 -- where all are good the charges are the fees
 charges_fees : (v : Seen) (f : Format) (n k : ℕ) → ((j : ℕ) → k ≤ j → j < k + n → Good v f j) → charges_of v f k n ≡ fees_of v f k n
@@ -88,7 +88,7 @@ module _ (c : Call) (enough : Suffices c) where
   same_view : v ≡ seen c.file []
   same_view = came_whole c.file c.map enough.came
 
-  inspects : (h : Handle) (w : ℕ) → (inspected_of (seen c.file []) c.page c.limits c.units ≡ InspectedIs.Picture h w)
+  inspects : (h : Handle) (w : ℕ) → (inspected_of (seen c.file []) c.page c.limits c.units ≡ Ok (inspected_with h w))
       ↔ Inspects v c.page c.limits c.units w h
   inspects h w =
       let same = ap (λ (x : Seen). inspected_of x c.page c.limits c.units) same_view in
@@ -98,7 +98,7 @@ module _ (c : Call) (enough : Suffices c) where
   -- patchy reading answers with every quality byte of a segment 1 exactly if strict inspection succeeds, and both leave the same units
   pub whole_exact : (w : ℕ)
       → ((s : Sizes) × (Answered c s w × ((k : ℕ) → k < s.segments → MarkedGood c k)))
-      ↔ ((h : Handle) × (inspected_of (seen c.file []) c.page c.limits c.units ≡ InspectedIs.Picture h w))
+      ↔ ((h : Handle) × (inspected_of (seen c.file []) c.page c.limits c.units ≡ Ok (inspected_with h w)))
   whole_exact w = (
     λ (s, (e, marked)).
         let r = (reading_exact c s w).0 e in
@@ -112,7 +112,7 @@ module _ (c : Call) (enough : Suffices c) where
         (sizes_of f, (answered, λ k l. (quality_good c (sizes_of f) w answered k l).1 (i.fine.each_segment k l).good)),
   )
 
-  module _ (h : Handle) (w : ℕ) (gave : inspected_of (seen c.file []) c.page c.limits c.units ≡ InspectedIs.Picture h w) where
+  module _ (h : Handle) (w : ℕ) (gave : inspected_of (seen c.file []) c.page c.limits c.units ≡ Ok (inspected_with h w)) where
     -- the output is what strict decode of the handle leaves in it
     pub whole_picture : output_then c ≡ overlay (picture_of h.format (shown (seen c.file []) h.format)) c.output
     whole_picture =

@@ -8,6 +8,7 @@ use Rattle.trace.specs.Trace.{Message, start, block, trace_of, ends_with, writte
 use Rattle.receiver.specs.Receiver.{Reception, Suffice, message_checks, answer_to, received, received_all}
 use Rattle.promises.specs.Since.{StartAmong, LastStart, BlockOf, CameSince, CameLast, Kept}
 use Rattle.face_receiver.specs.Reception.{receiver_of, lent_words, Replay}
+use Rattle.checks.specs.declared.Refusal.{Refusal}
 
 pub record Bus : Type 0 where
   -- a trace is read as it was written, message after message
@@ -19,8 +20,8 @@ pub record Bus : Type 0 where
       → trace_of part ≡ ends_with (Err truncated)
   pub foreign_ends : (byte : ℕ) (rest : List ℕ) → (byte ≡ 1 → ⊥) → (byte ≡ 2 → ⊥) → trace_of (byte ∷ rest) ≡ ends_with (Err invalid)
   -- a message is refused with the number of the first of its checks that fails, and then changes nothing
-  pub refused_first : (m : Message) (s : Reception) (e : ℕ) → (answer_to m s ≡ Err e) ↔ RefusedAt (message_checks m s) 0 e 0
-  pub refused_leaves : (m : Message) (s : Reception) (e : ℕ) → answer_to m s ≡ Err e → received m s ≡ s
+  pub refused_first : (m : Message) (s : Reception) (e : Refusal) → (answer_to m s ≡ Err e) ↔ RefusedAt (message_checks m s) 0 e 0
+  pub refused_leaves : (m : Message) (s : Reception) (e : Refusal) → answer_to m s ≡ Err e → received m s ≡ s
   -- before an accepted start every block is refused with 11, and all stays as it was
   pub none_before : (s : Reception) → s.receiver.started ≡ false → (messages : List Message)
       → (StartAmong (length s.file) (length s.map) messages → ⊥) → (number : ℕ) (bytes : List ℕ)

@@ -1,12 +1,13 @@
 -- The three demands, each as one record whose fields are its sentences, over every call of either reading. What they speak of is defined in
 -- Strict.antt, StrictCall.antt and Patchy.antt beside this file; proofs/Demands.antt inhabits each record once.
 use Rattle.std.specs.Prelude.{ℕ, ◌*◌, ◌<◌, ◌≤◌, ◌≡◌, ◌↔◌, ◌⊎◌, List, length, take, get_or, replicate, Ok, Err}
-use Rattle.checks.specs.Numbers.{invalid, leaving}
+use Rattle.checks.specs.Numbers.{number_of, invalid, leaving}
+use Rattle.checks.specs.declared.Refusal.{Refusal}
 use Rattle.checks.specs.Exact.{RefusedAt}
 use Rattle.inspection.specs.Inspection.{inspect_checks}
 use Rattle.decoding.specs.Strict.{decode_checks, both_checks}
 use Rattle.handle.specs.declared.Handle.{Handle}
-use Rattle.handle.specs.declared.Inspected.TheVariants as InspectedIs
+use Rattle.handle.specs.Handle.{inspected_with}
 use Rattle.patchy.specs.Patchy.{reading_number}
 use Rattle.patchy.specs.declared.Sizes.{Sizes}
 use Rattle.plain_patchy.specs.Read.{PatchyRead}
@@ -26,37 +27,37 @@ Numbered greatest e = (0 < e) × (e ≤ greatest)
 -- each refusal are fixed (rules 1.1 to 1.4).
 pub record Demand1 : Type 0 where
   -- a reading with a delivery map is answered with a picture, or refused with one of the numbers 1 to 9
-  pub reading_answers : (c : Call) → ((s : Sizes) × (w : ℕ) × Answered c s w) ⊎ ((e : ℕ) × (w : ℕ) × (RefusedWith c e w × Numbered 9 e))
+  pub reading_answers : (c : Call) → ((s : Sizes) × (w : ℕ) × Answered c s w) ⊎ ((e : Refusal) × (w : ℕ) × (RefusedWith c e w × Numbered 9 (number_of e)))
   -- the number and the units left are those of the first of its checks, in their order, that fails: what was charged before it stays taken, and
   -- the check itself takes nothing
-  pub reading_refused : (c : Call) (e w : ℕ) → RefusedWith c e w ↔ RefusedAt (checks c) c.units e w
+  pub reading_refused : (c : Call) (e : Refusal) (w : ℕ) → RefusedWith c e w ↔ RefusedAt (checks c) c.units e w
   -- output and scratch are then as they were, and every quality byte is 0
-  pub reading_leaves : (c : Call) (e w : ℕ) → RefusedWith c e w
+  pub reading_leaves : (c : Call) (e : Refusal) (w : ℕ) → RefusedWith c e w
       → (patchy.output_then c ≡ c.output) × ((patchy.scratch_then c ≡ c.scratch) × (patchy.quality_then c ≡ replicate (length c.quality) 0))
   -- the same of strict inspection, which has no buffers, with the numbers 1 to 7
   pub inspection_answers : (c : StrictCall)
-      → ((h : Handle) × (w : ℕ) × (inspect_answer c ≡ InspectedIs.Picture h w))
-      ⊎ ((e : ℕ) × (w : ℕ) × ((inspect_answer c ≡ InspectedIs.Refused e w) × Numbered 7 e))
-  pub inspection_refused : (c : StrictCall) (e w : ℕ)
-      → (inspect_answer c ≡ InspectedIs.Refused e w) ↔ RefusedAt (inspect_checks (whole_view c) c.page c.limits) c.units e w
+      → ((h : Handle) × (w : ℕ) × (inspect_answer c ≡ Ok (inspected_with h w)))
+      ⊎ ((e : Refusal) × (w : ℕ) × ((inspect_answer c ≡ Err (leaving e w)) × Numbered 7 (number_of e)))
+  pub inspection_refused : (c : StrictCall) (e : Refusal) (w : ℕ)
+      → (inspect_answer c ≡ Err (leaving e w)) ↔ RefusedAt (inspect_checks (whole_view c) c.page c.limits) c.units e w
   -- of decode of whatever handle: 2 exactly where the handle is not given, then 6 and 7
   pub decode_answers : (c : StrictCall) (h : Handle)
-      → ((w : ℕ) × (decode_answer c h ≡ Ok w)) ⊎ ((e : ℕ) × (w : ℕ) × ((decode_answer c h ≡ Err (leaving e w)) × Numbered 7 e))
-  pub decode_refused : (c : StrictCall) (h : Handle) (e w : ℕ)
+      → ((w : ℕ) × (decode_answer c h ≡ Ok w)) ⊎ ((e : Refusal) × (w : ℕ) × ((decode_answer c h ≡ Err (leaving e w)) × Numbered 7 (number_of e)))
+  pub decode_refused : (c : StrictCall) (h : Handle) (e : Refusal) (w : ℕ)
       → (decode_answer c h ≡ Err (leaving e w))
       ↔ RefusedAt (decode_checks (whole_view c) c.limits h (length c.output) (length c.scratch)) c.units e w
   pub decode_invalid : (c : StrictCall) (h : Handle) (w : ℕ)
       → (decode_answer c h ≡ Err (leaving invalid w)) ↔ ((Given (whole_view c) c.limits h → ⊥) × (w ≡ c.units))
-  pub decode_leaves : (c : StrictCall) (h : Handle) (e w : ℕ) → decode_answer c h ≡ Err (leaving e w)
+  pub decode_leaves : (c : StrictCall) (h : Handle) (e : Refusal) (w : ℕ) → decode_answer c h ≡ Err (leaving e w)
       → (decode_output c h ≡ c.output) × (decode_scratch c h ≡ c.scratch)
   -- and of inspection and decode in one call
   pub read_answers : (c : StrictCall)
-      → ((h : Handle) × (w : ℕ) × (strict.answer c ≡ InspectedIs.Picture h w))
-      ⊎ ((e : ℕ) × (w : ℕ) × ((strict.answer c ≡ InspectedIs.Refused e w) × Numbered 7 e))
-  pub read_refused : (c : StrictCall) (e w : ℕ)
-      → (strict.answer c ≡ InspectedIs.Refused e w)
+      → ((h : Handle) × (w : ℕ) × (strict.answer c ≡ Ok (inspected_with h w)))
+      ⊎ ((e : Refusal) × (w : ℕ) × ((strict.answer c ≡ Err (leaving e w)) × Numbered 7 (number_of e)))
+  pub read_refused : (c : StrictCall) (e : Refusal) (w : ℕ)
+      → (strict.answer c ≡ Err (leaving e w))
       ↔ RefusedAt (both_checks (whole_view c) c.page c.limits (length c.output) (length c.scratch)) c.units e w
-  pub read_leaves : (c : StrictCall) (e w : ℕ) → strict.answer c ≡ InspectedIs.Refused e w
+  pub read_leaves : (c : StrictCall) (e : Refusal) (w : ℕ) → strict.answer c ≡ Err (leaving e w)
       → (strict.output_then c ≡ c.output) × (strict.scratch_then c ≡ c.scratch)
 
 -- A picture is accepted exactly when it meets the rules on profile, limits and segments and the budget covers the exact charge (rules 5.4, 7.1, 7.4, 7.6
@@ -65,7 +66,7 @@ pub record Demand2 : Type 0 where
   -- inspection gives a handle and leaves w units exactly when the picture is fine, the charge is covered, the handle is the one defined, and no more
   -- is taken
   pub inspection_accepts : (c : StrictCall) (h : Handle) (w : ℕ)
-      → (inspect_answer c ≡ InspectedIs.Picture h w) ↔ Inspects (whole_view c) c.page c.limits c.units w h
+      → (inspect_answer c ≡ Ok (inspected_with h w)) ↔ Inspects (whole_view c) c.page c.limits c.units w h
   -- decode passes and leaves w units exactly when its handle is given, the buffers hold the picture and scratch, and the sum of fees is covered; the
   -- picture is then in the output
   pub decode_accepts : (c : StrictCall) (h : Handle) (w : ℕ)
@@ -74,9 +75,9 @@ pub record Demand2 : Type 0 where
       → Shows (whole_view c) h c.output c.scratch (decode_output c h) (decode_scratch c h)
   -- the same of both in one call
   pub read_accepts : (c : StrictCall) (h : Handle) (w : ℕ)
-      → (strict.answer c ≡ InspectedIs.Picture h w)
+      → (strict.answer c ≡ Ok (inspected_with h w))
       ↔ ReadsPage (whole_view c) c.page c.limits (length c.output) (length c.scratch) c.units w h
-  pub read_shows : (c : StrictCall) (h : Handle) (w : ℕ) → strict.answer c ≡ InspectedIs.Picture h w
+  pub read_shows : (c : StrictCall) (h : Handle) (w : ℕ) → strict.answer c ≡ Ok (inspected_with h w)
       → Shows (whole_view c) h c.output c.scratch (strict.output_then c) (strict.scratch_then c)
   -- a reading with a delivery map is answered with these sizes and leaves w units exactly when each of its tests holds and its charge is covered
   pub reading_accepts : (c : Call) (s : Sizes) (w : ℕ) → Answered c s w ↔ Reads c s w

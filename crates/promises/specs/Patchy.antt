@@ -1,8 +1,11 @@
 -- Patchy reading without order: what is true of a call exactly if it is answered, what that charges, and when two calls differ in
 -- nothing but bytes that did not come and what the buffers held.
-use Rattle.std.specs.Prelude.{ℕ, ◌+◌, ◌-◌, ◌*◌, ◌<◌, ◌≤◌, ◌≡◌, ◌⊎◌, true, List, [], length, take, get_or}
+use Rattle.std.specs.Prelude.{ℕ, ◌+◌, ◌-◌, ◌*◌, ◌<◌, ◌≤◌, ◌≡◌, ◌⊎◌, true, List, [], length, take, get_or, Result, Ok, Err}
 use Rattle.checks.specs.Sizes.{most64}
+use Rattle.checks.specs.Numbers.{leaving}
 use Rattle.checks.specs.Checks.{Check}
+use Rattle.checks.specs.declared.Refusal.{Refusal}
+use Rattle.checks.specs.declared.Refused.{Refused}
 use Rattle.seen.specs.Seen.{Seen, seen, blocks_in, arrived, Agree}
 use Rattle.header.specs.declared.Limits.{Limits}
 use Rattle.front.specs.Front.{format_seen}
@@ -11,11 +14,10 @@ use Rattle.geometry.specs.Geometry.{segment_of}
 use Rattle.picture.specs.declared.Format.{Format}
 use Rattle.picture.specs.Picture.{scratch_of}
 use Rattle.admission.specs.Admission.{room_in, picture_charge, patchy_checks}
-use Rattle.patchy.specs.Patchy.{sizes_of, reading_left, reading_of, output_after, scratch_after, quality_after}
+use Rattle.patchy.specs.Patchy.{sizes_of, reading_with, reading_left, reading_of, output_after, scratch_after, quality_after}
 use Rattle.admission.specs.declared.Room.{Room}
 use Rattle.patchy.specs.declared.Sizes.{Sizes}
 use Rattle.patchy.specs.declared.Reading.{Reading}
-use Rattle.patchy.specs.declared.Reading.TheVariants.{Refused, Picture}
 use Rattle.promises.specs.Strict.{PageFine, pixel_seen}
 
 -- a call: the file and its delivery map, what is asked for, the units at hand, and the lent buffers as they stood before
@@ -41,7 +43,7 @@ module _ (c : Call) where
   room = room_in c.output c.scratch c.quality
 
   -- what `patchy::read` promises of it: its answer, with the units left, and the three buffers afterwards
-  abbrev pub answer : Reading
+  abbrev pub answer : Result Reading Refused
   answer = reading_of view (length c.map) c.page c.limits room c.units
 
   abbrev pub left : ℕ
@@ -62,10 +64,10 @@ module _ (c : Call) where
 
   -- it is answered with these sizes and w units left, or refused with the number e and w units left
   abbrev pub Answered : Sizes → ℕ → Type 0
-  Answered s w = answer ≡ Picture s w
+  Answered s w = answer ≡ Ok (reading_with s w)
 
-  abbrev pub RefusedWith : ℕ → ℕ → Type 0
-  RefusedWith e w = answer ≡ Refused e w
+  abbrev pub RefusedWith : Refusal → ℕ → Type 0
+  RefusedWith e w = answer ≡ Err (leaving e w)
 
   -- a map of the right length or none, and buffers that hold the picture
   pub record LentFine : Type 0 where
@@ -138,7 +140,7 @@ pub record Alike (a b : Call) : Type 0 where
 -- one answer with the same units left, the same picture where there is one, the same quality bytes (rule 8.10)
 pub record SameOutcome (a b : Call) : Type 0 where
   pub answers : answer a ≡ answer b
-  pub pixels : (s : Sizes) (w : ℕ) → answer b ≡ Picture s w → take (2 * s.channels * (s.width * s.height)) (output_then a)
+  pub pixels : (s : Sizes) (w : ℕ) → answer b ≡ Ok (reading_with s w) → take (2 * s.channels * (s.width * s.height)) (output_then a)
       ≡ take (2 * s.channels * (s.width * s.height)) (output_then b)
   pub marks : quality_then a ≡ quality_then b
 

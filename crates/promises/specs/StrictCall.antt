@@ -1,5 +1,5 @@
 -- A call of strict reading, and what is left of it: inspection and decode in one call, and decode of a handle.
-use Rattle.std.specs.Prelude.{ℕ, List, [], length}
+use Rattle.std.specs.Prelude.{ℕ, List, [], length, Result}
 use Rattle.seen.specs.Seen.{Seen, seen}
 use Rattle.header.specs.declared.Limits.{Limits}
 use Rattle.inspection.specs.Inspection.{inspected_of}
@@ -8,6 +8,7 @@ use Rattle.decoding.specs.Strict.{decoded_of, both_of, output_decoded, scratch_d
 use Rattle.handle.specs.declared.Handle.{Handle}
 use Rattle.handle.specs.declared.Inspected.{Inspected}
 use Rattle.checks.specs.Numbers.{Told}
+use Rattle.checks.specs.declared.Refused.{Refused}
 
 -- the file, what is asked for, the units at hand, and the lent buffers as they stood before
 pub record StrictCall : Type 0 where
@@ -24,11 +25,11 @@ module _ (c : StrictCall) where
   whole_view = seen c.file []
 
   -- what `logluv_tiff::inspect` promises of it
-  abbrev pub inspect_answer : Inspected
+  abbrev pub inspect_answer : Result Inspected Refused
   inspect_answer = inspected_of whole_view c.page c.limits c.units
 
   -- what `logluv_tiff::read` promises of it: its answer, the units left, and the two buffers afterwards
-  abbrev pub answer : Inspected
+  abbrev pub answer : Result Inspected Refused
   answer = both_of whole_view c.page c.limits (length c.output) (length c.scratch) c.units
 
   abbrev pub left : ℕ
