@@ -8,14 +8,13 @@ use Rattle.checks.specs.Checks.{run}
 use Rattle.checks.proofs.Refusals.{refused}
 use Rattle.handle.specs.declared.Handle.{Handle}
 use Rattle.handle.specs.declared.Inspected.{Inspected}
-use Rattle.handle.specs.declared.Inspected.TheVariants as InspectedIs
+use Rattle.handle.specs.Handle.{inspected_with}
 use Rattle.handle.proofs.Answers.{inspected_refused}
 use Rattle.inspection.specs.Inspection.{handle_of}
 use Rattle.decoding.specs.Strict.{both_checks}
 use Rattle.patchy.specs.Patchy.{reading_number, reading_left}
 use Rattle.patchy.specs.declared.Sizes.{Sizes}
 use Rattle.patchy.specs.declared.Reading.{Reading}
-use Rattle.patchy.specs.declared.Reading.TheVariants as ReadingIs
 use Rattle.plain_patchy.specs.Read.{answer_of}
 use Rattle.plain_patchy.specs.declared.Answer.{Answer}
 use Rattle.promises.specs.StrictCall.{StrictCall, whole_view, inspect_answer, decode_answer}
@@ -31,39 +30,42 @@ use Rattle.promises.proofs.Decoded.{decode_shows, read_shows}
 use Rattle.promises.proofs.Patchy.{reading_exact, reading_number_lem, reading_numbered, reading_refused, refused_leaves}
 use Rattle.promises.proofs.Unseen.{lost_bytes_have_no_influence}
 use Rattle.promises.proofs.Marks.{quality_good, good_shows, others_blank, good_never_blank}
-use Rattle.checks.specs.Numbers.{Told, leaving}
-use Rattle.std.specs.Prelude.{Ok, Err}
+use Rattle.checks.specs.Numbers.{number_of, Told, leaving}
+use Rattle.checks.specs.declared.Refusal.{Refusal}
+use Rattle.checks.specs.declared.Refused.{Refused}
+use Rattle.std.specs.Prelude.{Result, Ok, Err}
 
 -- an answer is a picture or a refusal
-reading_cases : (c : Call) (r : Reading) → patchy.answer c ≡ r → ((s : Sizes) × (w : ℕ) × Answered c s w)
-    ⊎ ((e : ℕ) × (w : ℕ) × (RefusedWith c e w × Numbered 9 e))
-reading_cases c (ReadingIs.Picture s w) q = inl (s, w, q)
-reading_cases c (ReadingIs.Refused e w) q = inr (e, w, (q, reading_numbered c e w q))
+reading_cases : (c : Call) (r : Result Reading Refused) → patchy.answer c ≡ r → ((s : Sizes) × (w : ℕ) × Answered c s w)
+    ⊎ ((e : Refusal) × (w : ℕ) × (RefusedWith c e w × Numbered 9 (number_of e)))
+reading_cases c (Ok r) q = inl (r.sizes, r.left, q)
+reading_cases c (Err r) q = inr (r.refusal, r.left, (q, reading_numbered c r.refusal r.left q))
 
 module _ (c : StrictCall) where
-  inspection_cases : (r : Inspected) → inspect_answer c ≡ r
-      → ((h : Handle) × (w : ℕ) × (inspect_answer c ≡ InspectedIs.Picture h w))
-      ⊎ ((e : ℕ) × (w : ℕ) × ((inspect_answer c ≡ InspectedIs.Refused e w) × Numbered 7 e))
-  inspection_cases (InspectedIs.Picture h w) q = inl (h, w, q)
-  inspection_cases (InspectedIs.Refused e w) q = inr (e, w, (q, inspection_numbered c.file c.page c.limits c.units e w q))
+  inspection_cases : (r : Result Inspected Refused) → inspect_answer c ≡ r
+      → ((h : Handle) × (w : ℕ) × (inspect_answer c ≡ Ok (inspected_with h w)))
+      ⊎ ((e : Refusal) × (w : ℕ) × ((inspect_answer c ≡ Err (leaving e w)) × Numbered 7 (number_of e)))
+  inspection_cases (Ok i) q = inl (i.handle, i.left, q)
+  inspection_cases (Err r) q = inr (r.refusal, r.left, (q, inspection_numbered c.file c.page c.limits c.units r.refusal r.left q))
 
   decode_cases : (h : Handle) (t : Told) → decode_answer c h ≡ t
-      → ((w : ℕ) × (decode_answer c h ≡ Ok w)) ⊎ ((e : ℕ) × (w : ℕ) × ((decode_answer c h ≡ Err (leaving e w)) × Numbered 7 e))
+      → ((w : ℕ) × (decode_answer c h ≡ Ok w)) ⊎ ((e : Refusal) × (w : ℕ) × ((decode_answer c h ≡ Err (leaving e w)) × Numbered 7 (number_of e)))
   decode_cases h (Ok w) q = inl (w, q)
   decode_cases h (Err r) q =
-      inr (e, w, (q, decode_numbered (whole_view c) c.limits h (length c.output) (length c.scratch) c.units e w q))
+      inr (r.refusal, r.left, (q, decode_numbered (whole_view c) c.limits h (length c.output) (length c.scratch) c.units r.refusal r.left q))
 
   -- what is refused of inspection and decode in one call is refused by their checks
-  read_told : (e w : ℕ) → strict.answer c ≡ InspectedIs.Refused e w
+  read_told : (e : Refusal) (w : ℕ) → strict.answer c ≡ Err (leaving e w)
       → run (both_checks (whole_view c) c.page c.limits (length c.output) (length c.scratch)) c.units ≡ Err (leaving e w)
   read_told e w q = inspected_refused _ (handle_of (whole_view c) c.page) e w q
 
-  read_cases : (r : Inspected) → strict.answer c ≡ r
-      → ((h : Handle) × (w : ℕ) × (strict.answer c ≡ InspectedIs.Picture h w))
-      ⊎ ((e : ℕ) × (w : ℕ) × ((strict.answer c ≡ InspectedIs.Refused e w) × Numbered 7 e))
-  read_cases (InspectedIs.Picture h w) q = inl (h, w, q)
-  read_cases (InspectedIs.Refused e w) q =
-      inr (e, w, (q, read_numbered c.file c.page c.limits (length c.output) (length c.scratch) c.units e w (read_told e w q)))
+  read_cases : (r : Result Inspected Refused) → strict.answer c ≡ r
+      → ((h : Handle) × (w : ℕ) × (strict.answer c ≡ Ok (inspected_with h w)))
+      ⊎ ((e : Refusal) × (w : ℕ) × ((strict.answer c ≡ Err (leaving e w)) × Numbered 7 (number_of e)))
+  read_cases (Ok i) q = inl (i.handle, i.left, q)
+  read_cases (Err r) q =
+      let t = read_told r.refusal r.left q in
+      inr (r.refusal, r.left, (q, read_numbered c.file c.page c.limits (length c.output) (length c.scratch) c.units r.refusal r.left t))
 
 pub demand_1 : Demand1
 demand_1 = record {
@@ -104,9 +106,9 @@ demand_3 = record {
 }
 
 -- the number of an image's answer is that of the reading
-answer_number : (r : Reading) → (answer_of r).number ≡ reading_number r
-answer_number (ReadingIs.Picture s w) = refl
-answer_number (ReadingIs.Refused e w) = refl
+answer_number : (r : Result Reading Refused) → (answer_of r).number ≡ reading_number r
+answer_number (Ok r) = refl
+answer_number (Err r) = refl
 
 pub demand_3_at_faces : Demand3AtFaces
 demand_3_at_faces = record {

@@ -8,7 +8,7 @@ use mathlib.Core.Logic.{◌↔◌}
 use mathlib.Core.Bool.{Bool, true, false}
 use native.Mathlib.Omega.{arith}
 use borrow.Author.Tests.{leb-true, le-leb}
-use Rattle.checks.specs.Numbers.{invalid, leaving}
+use Rattle.checks.specs.Numbers.{number_of, invalid, leaving}
 use Rattle.checks.specs.Checks.{run, Holds, cost, Never}
 use Rattle.checks.specs.Exact.{Exact, RefusedAt}
 use Rattle.checks.proofs.Exact.{accepted, never, same_refused}
@@ -28,6 +28,7 @@ use Rattle.promises.specs.Strict.{inspection_charge, Given, Decodes}
 use Rattle.promises.proofs.Strict.{inspection_exact}
 use Rattle.std.specs.Prelude.{Ok, Err}
 use Rattle.checks.specs.declared.Refusal.{Refusal}
+use Rattle.checks.specs.declared.Refused.{Refused}
 
 -- buffers that hold the picture
 pub show_fine : (h : Handle) (output scratch : ℕ) → Holds (show_checks h output scratch) ↔ ((h.format.output ≤ output) × (h.scratch ≤ scratch))
@@ -38,10 +39,10 @@ show_fine h output scratch = (
 )
 
 -- the buffers and the charge never answer 2
-pub shown_valid : (h : Handle) (output scratch u w : ℕ) → run (show_checks h output scratch) u ≡ Err (leaving invalid w) → ⊥
+pub shown_valid : (h : Handle) (output scratch u : ℕ) (r : Refused) → run (show_checks h output scratch) u ≡ Err r → number_of r.refusal ≡ number_of invalid → ⊥
 unfolding Never
-shown_valid h output scratch u w q =
-    never 2 (show_checks h output scratch) u (leaving invalid w) (λ y. absurd (omega arith), (λ y. absurd (omega arith), (λ y. omega arith, tt))) q refl
+shown_valid h output scratch u r =
+    never 2 (show_checks h output scratch) u r (λ y. absurd (omega arith), (λ y. absurd (omega arith), (λ y. omega arith, tt)))
 
 module _ (v : Seen) (l : Limits) where
   -- a handle is given exactly if an inspection of its page, with units for any charge, gives it
@@ -97,7 +98,7 @@ module _ (v : Seen) (l : Limits) where
     )
       where
         by : (t : Bool) → is_handle v l h ≡ t → run (decode_checks v l h output scratch) u ≡ Err (leaving invalid w) → (Given v l h → ⊥) × (w ≡ u)
-        by true t q = absurd (shown_valid h output scratch u w (must_yes _ _ _ _ t refl ∙ q))
+        by true t q = absurd (shown_valid h output scratch u (leaving invalid w) (must_yes _ _ _ _ t refl ∙ q) refl)
         by false t q =
             (λ g. true_false ((handle_exact h).1 g) t, sym (same_refused (leaving invalid u) (leaving invalid w) (must_no _ _ _ _ t ∙ q)).1)
 

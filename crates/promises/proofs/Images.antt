@@ -8,7 +8,8 @@ use native.Mathlib.Omega.{arith}
 use lib.Dec.{eqb}
 use lib.ListN.{length}
 use borrow.Author.Tests.{eqb-true, eq-eqb}
-use Rattle.checks.specs.Numbers.{invalid, leaving}
+use Rattle.checks.specs.Numbers.{number_of, invalid, leaving}
+use Rattle.checks.specs.declared.Refusal.{Refusal}
 use Rattle.checks.specs.Checks.{run, Holds}
 use Rattle.checks.proofs.Exact.{accepted}
 use Rattle.checks.proofs.Rules.{must_no, must_yes}
@@ -17,7 +18,7 @@ use Rattle.header.specs.declared.Limits.{Limits}
 use Rattle.inspection.specs.Inspection.{inspected_of, is_handle}
 use Rattle.decoding.specs.Strict.{decode_checks}
 use Rattle.handle.specs.declared.Handle.{Handle}
-use Rattle.handle.specs.declared.Inspected.TheVariants as InspectedIs
+use Rattle.handle.specs.Handle.{inspected_with}
 use Rattle.plain_image.specs.Image.{no_limits, no_handle, refused, info_of, image_checks, image_decode_told}
 use Rattle.image_info.specs.declared.Info.{Info}
 use Rattle.promises.specs.Strict.{Decodes}
@@ -65,12 +66,12 @@ module _ (file output scratch : List ℕ) (units : ℕ) where
 
   module _ (page : ℕ) (l : Limits) (u w : ℕ) where
     -- an image that an inspection gave is decoded as its handle is
-    pub image_decodes : (h : Handle) → inspected_of (seen file []) page l u ≡ InspectedIs.Picture h w
+    pub image_decodes : (h : Handle) → inspected_of (seen file []) page l u ≡ Ok (inspected_with h w)
         → image_decode_told file (info_of l (inspected_of (seen file []) page l u)) output scratch units
         ≡ run (decode_checks (seen file []) l h (length output) (length scratch)) units
-    image_decodes h e = rw e (by_handle (info_of l (InspectedIs.Picture h w)) refl)
+    image_decodes h e = rw e (by_handle (info_of l (Ok (inspected_with h w))) refl)
 
     -- after a refusal, whatever its number, decode answers 2 and takes nothing
-    pub image_refused : (e : ℕ) → inspected_of (seen file []) page l u ≡ InspectedIs.Refused e w
+    pub image_refused : (e : Refusal) → inspected_of (seen file []) page l u ≡ Err (leaving e w)
         → image_decode_told file (info_of l (inspected_of (seen file []) page l u)) output scratch units ≡ Err (leaving invalid units)
-    image_refused e q = rw q (carried_refusal e)
+    image_refused e q = rw q (carried_refusal (number_of e))

@@ -8,9 +8,9 @@ use native.Mathlib.Omega.{arith}
 use lib.Dec.{eqb}
 use lib.ListN.{length}
 use borrow.Author.Tests.{eqb-true, eq-eqb}
-use Rattle.checks.specs.Numbers.{invalid, told_number, Told, leaving}
+use Rattle.checks.specs.Numbers.{number_of, invalid, told_number, Told, leaving}
 use Rattle.checks.specs.Checks.{run, Holds}
-use Rattle.checks.proofs.Exact.{accepted, never}
+use Rattle.checks.proofs.Exact.{accepted}
 use Rattle.checks.proofs.Rules.{must_no, must_yes}
 use Rattle.checks.specs.Sizes.{most64}
 use Rattle.seen.specs.Seen.{Seen, seen}
@@ -20,14 +20,15 @@ use Rattle.inspection.specs.Inspection.{handle_of, inspected_of}
 use Rattle.decoding.specs.Strict.{show_checks, decode_checks}
 use Rattle.handle.specs.declared.Handle.{Handle}
 use Rattle.handle.specs.declared.Inspected.{Inspected}
-use Rattle.handle.specs.declared.Inspected.TheVariants as InspectedIs
+use Rattle.handle.specs.Handle.{inspected_with}
 use Rattle.face_words.specs.Words.{words_of, same_words}
 use Rattle.chelmesut.specs.Face.{words_after, gives_words, words_checks, words_decode_told, Inspect, Decode}
 use Rattle.promises.specs.Words.{WordsGiven, WordsDecode}
 use Rattle.promises.proofs.Strict.{inspection_exact}
 use Rattle.promises.proofs.Numbers.{inspection_number}
 use Rattle.promises.proofs.Handles.{given_inspected, shown_valid, handle_exact, decode_exact, handle_given}
-use Rattle.std.specs.Prelude.{Ok, Err}
+use Rattle.std.specs.Prelude.{Result, Ok, Err}
+use Rattle.checks.specs.declared.Refused.{Refused}
 
 -- the comparison says yes exactly of equal words
 both_true : (a b : Bool) → a && b ≡ true → (a ≡ true) × (b ≡ true)
@@ -59,22 +60,22 @@ module _ (v : Seen) (page : ℕ) (l : Limits) (words : List ℕ) where
     λ g. rw ((given_inspected v l (handle_of v page)).0 g.given).1 ((words_equal (words_of (handle_of v page)) words).1 (sym g.words_are)),
   )
     where
-      by : (t : Inspected) → inspected_of v page l most64 ≡ t → gives_words t words ≡ true → WordsGiven v page l words
-      by (InspectedIs.Picture h w) e q =
-          let same = ((inspection_exact v page l most64 w h).0 e).handle_is in
+      by : (t : Result Inspected Refused) → inspected_of v page l most64 ≡ t → gives_words t words ≡ true → WordsGiven v page l words
+      by (Ok i) e q =
+          let same = ((inspection_exact v page l most64 i.left i.handle).0 e).handle_is in
           record {
-            given = (given_inspected v l (handle_of v page)).1 (w, e ∙ ap (λ (g : Handle). InspectedIs.Picture g w) same);
-            words_are = sym ((words_equal (words_of h) words).0 q) ∙ ap words_of same;
+            given = (given_inspected v l (handle_of v page)).1 (i.left, e ∙ ap (λ (g : Handle). Ok (inspected_with g i.left)) same);
+            words_are = sym ((words_equal (words_of i.handle) words).0 q) ∙ ap words_of same;
           }
-      by (InspectedIs.Refused n w) e q = absurd (true_false q refl)
+      by (Err r) e q = absurd (true_false q refl)
 
 -- the buffers and the charge never answer 2
-shown_number : (h : Handle) (output scratch u : ℕ) → told_number (run (show_checks h output scratch) u) ≡ invalid → ⊥
+shown_number : (h : Handle) (output scratch u : ℕ) → told_number (run (show_checks h output scratch) u) ≡ number_of invalid → ⊥
 shown_number h output scratch u q = by (run (show_checks h output scratch) u) refl q
   where
-    by : (t : Told) → run (show_checks h output scratch) u ≡ t → told_number t ≡ invalid → ⊥
+    by : (t : Told) → run (show_checks h output scratch) u ≡ t → told_number t ≡ number_of invalid → ⊥
     by (Ok w) e z = omega arith
-    by (Err r) e z = shown_valid h output scratch u r.left (e ∙ ap (λ (x : ℕ). Err (leaving x r.left)) z)
+    by (Err r) e z = shown_valid h output scratch u r e z
 
 module _ (file : List ℕ) (page : ℕ) (l : Limits) (words : List ℕ) (units : ℕ) (output scratch : List ℕ) where
   -- where they are given the buffers and the charge decide
@@ -99,7 +100,7 @@ module _ (file : List ℕ) (page : ℕ) (l : Limits) (words : List ℕ) (units :
       by false q = sym (must_no _ _ _ _ q)
 
   -- so 2 is the answer to these alone
-  pub words_invalid : (told_number (words_decode_told file page l words units output scratch) ≡ invalid) ↔ (WordsGiven (seen file []) page l words → ⊥)
+  pub words_invalid : (told_number (words_decode_told file page l words units output scratch) ≡ number_of invalid) ↔ (WordsGiven (seen file []) page l words → ⊥)
   words_invalid = (
     λ q g. shown_number (handle_of (seen file []) page) (length output) (length scratch) units (sym (ap told_number (by_handle g)) ∙ q),
     λ other. ap told_number (words_refused other),
@@ -128,11 +129,11 @@ module _ (file : List ℕ) (page : ℕ) (l : Limits) (u : ℕ) (units : u ≤ mo
       let same = ((inspection_exact v page l u w h).0 gave).handle_is in
       record {
         given = rw same at (handle_given v l page u w h gave units);
-        words_are = inspect.words_are ∙ (ap (λ (t : Inspected). words_after t old) gave ∙ ap words_of same);
+        words_are = inspect.words_are ∙ (ap (λ (t : Result Inspected Refused). words_after t old) gave ∙ ap words_of same);
       }
 
   -- so decode of them never answers 2
   pub inspect_then_decode : (units : ℕ) (output scratch : List ℕ) (n rest : ℕ) (output' scratch' : List ℕ)
-      → Decode file page l words units output scratch n rest output' scratch' → n ≡ invalid → ⊥
+      → Decode file page l words units output scratch n rest output' scratch' → n ≡ number_of invalid → ⊥
   inspect_then_decode units output scratch n rest output' scratch' d e =
       (words_invalid file page l words units output scratch).0 (sym d.number_is ∙ e) inspected_words
