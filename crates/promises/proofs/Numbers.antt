@@ -41,7 +41,8 @@ picture_number cs u h no_zero =
     given (w, e) = (h, w, rw e)
 
 -- a refusal has a number that some check gives: where none gives a number outside of 1 to `most`, it is one of these
-pub told_numbered : (most : ℕ) (cs : List Check) → ((n : ℕ) → ((0 < n) × (n ≤ most) → ⊥) → Never n cs) → (u : ℕ) (e : Refusal) (w : ℕ) → run cs u ≡ Err (leaving e w)
+pub told_numbered : (most : ℕ) (cs : List Check) → ((n : ℕ) → ((0 < n) × (n ≤ most) → ⊥) → Never n cs)
+    → (u : ℕ) (e : Refusal) (w : ℕ) → run cs u ≡ Err (leaving e w)
     → (0 < number_of e) × (number_of e ≤ most)
 told_numbered most cs others u e w q = by (ltb 0 (number_of e)) (leb (number_of e) most) refl refl
   where
@@ -90,7 +91,8 @@ module _ (file : List ℕ) (page : ℕ) (l : Limits) where
       (never_inspection number unusual) (never_show number unusual (handle_of v page) output scratch)
 
   -- an inspection's number is 0 exactly if it gives a handle
-  pub inspection_number : (u : ℕ) → (inspected_number (inspected_of v page l u) ≡ 0) ↔ ((h : Handle) × (w : ℕ) × (inspected_of v page l u ≡ Ok (inspected_with h w)))
+  pub inspection_number : (u : ℕ)
+      → (inspected_number (inspected_of v page l u) ≡ 0) ↔ ((h : Handle) × (w : ℕ) × (inspected_of v page l u ≡ Ok (inspected_with h w)))
   inspection_number u = picture_number (inspect_checks v page l) u (handle_of v page) (never_inspection 0 zero_unusual)
 
   pub inspection_numbered : (u : ℕ) (e : Refusal) (w : ℕ) → inspected_of v page l u ≡ Err (leaving e w) → (0 < number_of e) × (number_of e ≤ 7)

@@ -76,4 +76,5 @@ module _ (v : Seen) (page : ℕ) (l : Limits) (output scratch : ℕ) where
   -- and a refusal of the inspection is the answer
   pub read_refused_early : (u : ℕ) (e : Refusal) (x : ℕ) → inspected_of v page l u ≡ Err (leaving e x) → both_of v page l output scratch u ≡ Err (leaving e x)
   unfolding both_checks
-  read_refused_early u e x q = rw (stops (inspect_checks v page l) (show_checks (handle_of v page) output scratch) u (leaving e x) (told_refused v page l u x e q))
+  read_refused_early u e x q =
+      rw (stops (inspect_checks v page l) (show_checks (handle_of v page) output scratch) u (leaving e x) (told_refused v page l u x e q))

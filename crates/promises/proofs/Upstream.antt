@@ -93,7 +93,8 @@ module _ (v : Seen) (f : Format) (maxInput maxOutput k : ℕ) (small : v.size �
           ∙ cost_then r.before (r.check ∷ r.after) in
           omega (arith, r.rest, r.covered, c, segment_cost v f maxOutput k, planned_fee t)
       by (Err n) t =
-          let s = stops (plan_checks v f maxOutput k) (fee_checks v f k) u (leaving n u) (run_refused (plan_checks v f maxOutput k) u n (plan_free v f maxOutput k) t) in
+          let plan = plan_checks v f maxOutput k in
+          let s = stops plan (fee_checks v f k) u (leaving n u) (run_refused plan u n (plan_free v f maxOutput k) t) in
           omega (arith, (same_refused (leaving n u) (leaving e w) (sym s ∙ q)).1)
 
 pub output_small : (v : Seen) (b : Bool) (entries : ℕ) (slots : List ℕ) (l : Limits) → ProfileFine v b slots l

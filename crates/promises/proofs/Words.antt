@@ -100,7 +100,8 @@ module _ (file : List ℕ) (page : ℕ) (l : Limits) (words : List ℕ) (units :
       by false q = sym (must_no _ _ _ _ q)
 
   -- so 2 is the answer to these alone
-  pub words_invalid : (told_number (words_decode_told file page l words units output scratch) ≡ number_of invalid) ↔ (WordsGiven (seen file []) page l words → ⊥)
+  pub words_invalid :
+      (told_number (words_decode_told file page l words units output scratch) ≡ number_of invalid) ↔ (WordsGiven (seen file []) page l words → ⊥)
   words_invalid = (
     λ q g. shown_number (handle_of (seen file []) page) (length output) (length scratch) units (sym (ap told_number (by_handle g)) ∙ q),
     λ other. ap told_number (words_refused other),

@@ -62,7 +62,7 @@ module _ (c : Call) where
   abbrev pub checks : List Check
   checks = patchy_checks view (length c.map) c.page c.limits room
 
-  -- it is answered with these sizes and w units left, or refused with the number e and w units left
+  -- it is answered with these sizes and w units left, or refused with e and w units left
   abbrev pub Answered : Sizes → ℕ → Type 0
   Answered s w = answer ≡ Ok (reading_with s w)
 
