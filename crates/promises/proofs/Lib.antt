@@ -22,3 +22,4 @@ pub mod Witness
 pub mod Demands
 pub mod Since
 pub mod Bus
+pub mod Answered
