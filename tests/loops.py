@@ -4,7 +4,7 @@
     tests/loops.py ARCHIVE
 
 An innermost loop is what stands between a jump back and where it goes, with no other such jump in it and no call of a function of this
-library that has one: such a loop is over rows, whose places it may compute. The functions looked at are those into which the compiler
+library that has one: such a loop is over rows or blocks, whose places it may compute. The functions looked at are those into which the compiler
 puts the loops over pixels, whatever it makes of them: those of the crates below. That the loop which reads the table of uv was among
 them is required too, else nothing was shown. It knows the names of instructions of x86-64 and of Arm."""
 import re
