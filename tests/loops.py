@@ -3,10 +3,9 @@
 
     tests/loops.py ARCHIVE
 
-An innermost loop is what stands between a jump back and where it goes, with no other such jump in it and no call of a function of this
-library that has one: such a loop is over rows or blocks, whose places it may compute. The functions looked at are those into which the compiler
-puts the loops over pixels, whatever it makes of them: those of the crates below. That the loop which reads the table of uv was among
-them is required too, else nothing was shown. It knows the names of instructions of x86-64 and of Arm."""
+An innermost loop is what stands between a jump back and where it goes, with no other such jump in it. The functions looked at are those
+into which the compiler puts the loops over pixels, whatever it makes of them: those of the crates below. That the loop which reads the
+table of uv was among them is required too, else nothing was shown. It knows the names of instructions of x86-64 and of Arm."""
 import re
 import subprocess
 import sys
@@ -18,49 +17,37 @@ HALF = ('movzwl', 'ldrh')  # reads 16 bits; eight of them are the u and v of fou
 
 def functions(archive):
     """The functions of the archive: their instructions by place, as (place, name, operands)."""
-    text = subprocess.run(['objdump', '-dr', '--no-show-raw-insn', archive], check=True, capture_output=True, text=True).stdout
+    text = subprocess.run(['objdump', '-d', '--no-show-raw-insn', archive], check=True, capture_output=True, text=True).stdout
     found, own = {}, None
     for line in text.split('\n'):
         start = re.match(r'[0-9a-f]+ <(.+)>:$', line)
         step = re.match(r'\s*([0-9a-f]+):\s+(\S+)\s*(.*)', line)
-        called = re.match(r'\s*[0-9a-f]+: R_\S+\s+(?:\.text\.)?(.+?)(?:[-+]0x[0-9a-f]+)?$', line)
         if start:
             own = found.setdefault(start[1], [])
-        elif called and own:
-            own[-1] = own[-1][:2] + (called[1],)
         elif step and own is not None:
             own.append((int(step[1], 16), step[2], step[3]))
     return found
 
-def jumps_back(steps):
-    """Where a function's loops begin and end."""
+def innermost_loops(steps):
+    """The loops of a function that hold no other."""
     places = {place for place, _, _ in steps}
     back = set()
     for place, name, operands in steps:
         goal = re.search(r'\b(?:0x)?([0-9a-f]+) <', operands)
         if JUMP.match(name) and goal and int(goal[1], 16) <= place and int(goal[1], 16) in places:
             back.add((int(goal[1], 16), place))
-    return back
-
-def innermost_loops(steps, looping):
-    """The loops of a function that hold no other and call none of the functions that loop."""
-    back = jumps_back(steps)
     for first, last in sorted(back):
         if not any((a, b) != (first, last) and first <= a and b <= last for a, b in back):
-            loop = [step for step in steps if first <= step[0] <= last]
-            if not any(name in ('call', 'bl') and operands in looping for _, name, operands in loop):
-                yield loop
+            yield [step for step in steps if first <= step[0] <= last]
 
 def main():
     if len(sys.argv) != 2:
         sys.exit('usage: tests/loops.py ARCHIVE')
     loops = slow = lookups = 0
-    found = functions(sys.argv[1])
-    looping = {function for function, steps in found.items() if jumps_back(steps)}
-    for function, steps in sorted(found.items()):
+    for function, steps in sorted(functions(sys.argv[1]).items()):
         if function.split('::')[0] not in CRATES:
             continue
-        for loop in innermost_loops(steps, looping):
+        for loop in innermost_loops(steps):
             loops += 1
             lookups += sum(name in HALF for _, name, _ in loop) >= 8
             for place, name, operands in loop:

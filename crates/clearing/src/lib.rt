@@ -13,14 +13,15 @@ pub fn clear(part: &mut [u8])
 }
 
 // Rows of so many bytes, the first at `first`, each further one a pitch later.
-// By their numbers: of what chunks_mut lends in a loop no element is known afterwards.
+// By their places: of what chunks_mut lends in a loop no element is known afterwards.
 #[tactic(auto, using(crate::proofs::ClearedRows::blanks))]
 pub fn clear_rows(size: usize, rows: usize, first: usize, pitch: usize, out: &mut [u8])
     requires { Clearable size rows first pitch (length out.old) }
     ensures { out.new ≡ spread (zero_row size) pitch 0 rows first out.old }
 {
-    for r in 0..rows {
-        let at = first + r * pitch;
+    let mut at = first;
+    for _ in 0..rows {
         out[at..at + size].fill(0);
+        at += pitch;
     }
 }

@@ -27,12 +27,16 @@ pub fn scatter(
     requires { Scatterable mono w n rows first pitch (length planes.now) (length out.old) }
     ensures { out.new ≡ spread (row_shown mono w n planes.now) pitch 0 rows first out.old }
 {
+    // A width that no row bounds may be too large to be multiplied.
+    if rows == 0 {
+        return;
+    }
     let table = pixel::table::uv_table();
-    for r in 0..rows {
-        let step = head::planes_of(mono) * w;
-        let size = head::bytes_of(mono) * n;
-        let from = r * step;
-        let at = first + r * pitch;
+    let step = head::planes_of(mono) * w;
+    let size = head::bytes_of(mono) * n;
+    let mut from = 0;
+    let mut at = first;
+    for _ in 0..rows {
         pixel_rows::convert_row(
             mono,
             &planes[from..from + step],
@@ -41,6 +45,9 @@ pub fn scatter(
             &table,
             &mut out[at..at + size],
         );
+        from += step;
+        // After the last row there may be no such place.
+        at = at.wrapping_add(pitch);
     }
 }
 

@@ -1,5 +1,5 @@
 use Rattle.clearing.proofs.ClearedRows.{Blanking}
 use Rattle.clearing.proofs.clear_rows.Given as goal
 
-abbrev pub invariant-loop-r : goal.invariant-loop-r
-invariant-loop-r l = Blanking l.size l.rows l.first l.pitch l.initial.out l.out l.r
+abbrev pub invariant-loop : goal.invariant-loop
+invariant-loop l = Blanking l.size l.rows l.first l.pitch l.initial.out l.out l.counter l.at
