@@ -1,7 +1,10 @@
 -- The size of the picture as the code finds it, by a product of three, and what is known where every test passes.
-use Prim.Native.Nat.{ℕ, ◌*◌, ◌<◌}
+use Prim.Native.Nat.{ℕ, ◌*◌, ◌^◌, ◌<◌, ◌≤◌}
 use mathlib.Core.Path.{◌≡◌, sym, ap, ◌∙◌}
-use native.Mathlib.Nat.{mul_comm, mul_assoc}
+use native.Mathlib.Omega.{arith}
+use native.Mathlib.Nat.{mul_comm, mul_assoc, le-mul_of_pos_right}
+use mir.Syntax.{w64}
+use mir.Val.{Fits}
 use Rattle.std.specs.Prelude.{Option, Some, None, Err}
 use Rattle.std.specs.Option.{ok_or}
 use Rattle.checks.specs.Numbers.{Verdict}
@@ -12,6 +15,18 @@ use Rattle.float64.specs.Float64.{size64}
 
 pub row_size : (w ch : ℕ) → w * (8 * ch) ≡ 8 * (w * ch)
 row_size w ch = sym (mul_assoc w 8 ch) ∙ ap (λ (x : ℕ). x * ch) (mul_comm w 8) ∙ mul_assoc 8 w ch
+
+-- so many bytes are those of one row as long as all rows, whose columns are a number of 64 bits
+pub all_columns : (w h ch : ℕ) → w * h * ch ≡ h * (w * ch)
+all_columns w h ch = ap (λ (n : ℕ). n * ch) (mul_comm w h) ∙ mul_assoc h w ch
+
+pub one_size : (w h ch : ℕ) → 8 * (w * h * ch) ≡ size64 w h ch
+one_size w h ch = ap (λ (n : ℕ). 8 * n) (all_columns w h ch) ∙ sym (row_size h (w * ch))
+
+pub columns_fit : (w h ch : ℕ) → 0 < ch → size64 w h ch < 2 ^ 64 → Fits w64 (w * h)
+columns_fit w h ch some small =
+    let more : w * h ≤ w * h * ch = le-mul_of_pos_right (w * h) some in
+    record { fits = omega (arith, one_size w h ch, more) }
 
 module _ (w h ch : ℕ) {r : Option ℕ} (e : r ≡ within (h * (w * (8 * ch)))) where
   pub size_known : (size : ℕ) → r ≡ Some size → Known (size64 w h ch) size

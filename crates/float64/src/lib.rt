@@ -69,6 +69,11 @@ pub fn convert(
     if out.len() < size {
         return Err(Refusal::OutputTooSmall);
     }
-    convert_rows(raw, w, h, ch, reset, little, predict, out);
+    if predict {
+        convert_rows(raw, w, h, ch, reset, little, true, out);
+    } else {
+        // Nothing tells then where a row ends, and so all rows are one.
+        convert_rows(raw, w * h, 1, ch, reset, little, false, out);
+    }
     Ok(())
 }

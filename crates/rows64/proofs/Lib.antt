@@ -1,2 +1,4 @@
 pub mod Samples
+pub mod Places
 pub mod Written
+pub mod Plain

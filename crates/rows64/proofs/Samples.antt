@@ -1,6 +1,5 @@
 -- What a sample is: its value, with the sample before it in its channel added where the sum goes on.
-use Rattle.std.proofs.Common.{◌≡◌, ℕ, suc, ◌+◌, ◌-◌, ◌*◌, ◌/◌, ◌%◌, ◌^◌, ◌<◌, Bool, true, false, List, sym, refl, ap, ◌∙◌, arith}
-use lib.Arith.{digits_div}
+use Rattle.std.proofs.Common.{◌≡◌, ℕ, suc, ◌+◌, ◌-◌, ◌/◌, ◌%◌, ◌^◌, ◌<◌, Bool, true, false, List, sym, refl, ap, ◌∙◌, arith}
 use Rattle.lists.specs.Sums.{summed_back}
 use Rattle.lists.proofs.Sums.{sum_first, sum_step, sum_fits}
 use Rattle.rows64.specs.Rows64.{value, sample}
@@ -28,24 +27,3 @@ module _ (little : Bool) (ch reset : ℕ) (row : List ℕ) (n : ℕ) where
   pub sample_fits : sample little true ch reset row n < 2 ^ 64
   unfolding sample
   sample_fits = sum_fits 64 (value little row) ch n (n / ch % reset)
-
--- the same of the sample in a channel of a column
-module _ (little predict : Bool) (ch reset : ℕ) (row : List ℕ) (column channel : ℕ) (inside : channel < ch) where
-  -- where no sum goes on, its value
-  pub sample_anew : (predict ≡ true → column % reset ≡ 0) → value little row (column * ch + channel) < 2 ^ 64
-      → value little row (column * ch + channel) ≡ sample little predict ch reset row (column * ch + channel)
-  sample_anew none fits = by predict refl
-    where
-      by : (b : Bool) → predict ≡ b → value little row (column * ch + channel) ≡ sample little predict ch reset row (column * ch + channel)
-      by false e = rw e (sym (sample_plain little ch reset row (column * ch + channel)))
-      by true e =
-          let d : (column * ch + channel) / ch % reset ≡ 0 = rw digits_div (none e) in
-          rw e (sym (sample_first little ch reset row (column * ch + channel) d fits))
-
-  -- where it goes on, its value and the sample a column before
-  pub sample_on : predict ≡ true → 0 < reset → (column % reset ≡ 0 → ⊥)
-      → (value little row (column * ch + channel) + sample little predict ch reset row (column * ch + channel - ch)) % 2 ^ 64
-      ≡ sample little predict ch reset row (column * ch + channel)
-  sample_on e some later =
-      let d : (column * ch + channel) / ch ≡ column = digits_div column inside in
-      rw e (sym (sample_next little ch reset row (column * ch + channel) (omega arith) some (rw d later)))

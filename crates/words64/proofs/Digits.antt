@@ -1,5 +1,5 @@
 -- Eight bytes and the number they stand for: what the loads and the stores compute.
-use Prim.Native.Nat.{ℕ, zero, suc, ◌/◌, ◌%◌, ◌^◌, ◌<◌}
+use Prim.Native.Nat.{ℕ, zero, suc, ◌+◌, ◌*◌, ◌/◌, ◌%◌, ◌^◌, ◌<◌}
 use mathlib.Core.Path.{◌≡◌, refl, ap, ◌∙◌}
 use mathlib.Core.List.{List, reverse}
 use mathlib.Core.Bool.{true, false}
@@ -7,20 +7,24 @@ use native.Mathlib.Omega.{arith}
 use native.Mathlib.Nat.{div-lt_iff_lt-mul, div-div-eq-div-mul, div-one, pow-zero, pow-suc, pow-succ', not-suc-le-zero, le_of_suc-le-suc}
 use lib.ListN.{length, get_or}
 use Rattle.lists.specs.Lists.{span}
-use Rattle.std.specs.Int.{w64, from_le_bytes, from_be_bytes, to_le_bytes}
+use Rattle.std.specs.Int.{w64, from_le_bytes, to_le_bytes}
 use Rattle.words64.specs.Words64.{number_from, digits, word}
 use Rattle.lists.proofs.Overlay.{listed}
 
--- std's reading of eight bytes is the number that they stand for, in either order
+-- std's reading of eight little-endian bytes is the number that they stand for
 pub little_word : (p : List ℕ) → length p ≡ 8 → from_le_bytes w64 p ≡ word true p
 unfolding word number_from span
 little_word p n = omega (arith, ap number_from (listed 8 p n))
 
-pub big_word : (p : List ℕ) → length p ≡ 8 → from_be_bytes w64 p ≡ word false p
+-- and so are bytes joined from the last to the first
+pub big_joined : (p : List ℕ) (r : ℕ) → length p ≡ 8
+    → r ≡ get_or p 7 0 + 256 * (get_or p 6 0 + 256 * (get_or p 5 0 + 256 * (get_or p 4 0
+    + 256 * (get_or p 3 0 + 256 * (get_or p 2 0 + 256 * (get_or p 1 0 + 256 * get_or p 0 0))))))
+    → r ≡ word false p
 unfolding word number_from span
-big_word p n = omega (arith, ap (λ (x : List ℕ). number_from (reverse x)) (listed 8 p n))
+big_joined p r n e = omega (arith, e, ap (λ (x : List ℕ). number_from (reverse x)) (listed 8 p n))
 
--- and its writing of a number is the number's digits
+-- and std's writing of a number is the number's digits
 pub written_digits : (v : ℕ) → to_le_bytes w64 v ≡ digits 8 v
 unfolding digits
 written_digits v = simp div-div-eq-div-mul
