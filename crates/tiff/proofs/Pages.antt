@@ -1,6 +1,6 @@
 -- The walk to a page: each return against the list of checks.
-use Prim.Native.Nat.{ℕ, zero, suc, ◌+◌, ◌-◌, ◌<◌}
-use mathlib.Core.Path.{◌≡◌, refl, sym, ap, ◌∙◌}
+use Prim.Native.Nat.{ℕ, zero, suc, ◌-◌}
+use mathlib.Core.Path.{◌≡◌, refl, ap, ◌∙◌}
 use mathlib.Core.List.{List, ◌∷◌, ◌++◌}
 use mathlib.Core.Bool.{Bool}
 use native.Mathlib.Omega.{arith}
@@ -61,31 +61,26 @@ module _ (v : Seen) (big : Bool) (maxTags : ℕ) where
       by (Ok u) e = rw (then (place_checks at) (rest p at) left u e) refl
       by (Err r) e = rw (stops (place_checks at) (rest p at) left r e) refl
 
-pub record Walking (v : Seen) (big : Bool) (maxTags page first left i : ℕ) (found : Directory) : Type 0 where
-  pub same : page_of v big maxTags page first left ≡ ahead v big maxTags (page - i) found
+-- with so many pages to go the next directory is at a place, with so many units left
+pub record Walking (v : Seen) (big : Bool) (maxTags page first left p at rest : ℕ) : Type 0 where
+  pub same : page_of v big maxTags page first left ≡ page_of v big maxTags p at rest
 
 module _ (v : Seen) (big : Bool) (maxTags page first left : ℕ) where
-  pub first_refused : {r : Refused} → PlaceIs v big maxTags first left (Err r) → PageIs v big maxTags page first left (Err r)
-  first_refused q = rw (step v big maxTags page first left, ← q) refl
+  pub none_walked : Walking v big maxTags page first left page first left
+  none_walked = record { same = refl }
 
-  pub first_found : {d : Directory} → PlaceIs v big maxTags first left (Ok d) → Walking v big maxTags page first left 0 d
-  first_found {d} q =
-      let z : page ≡ page - 0 = omega arith in
-      record { same = rw (step v big maxTags page first left, ← q) (ap (λ (k : ℕ). ahead v big maxTags k d) z) }
+  module _ (p at rest : ℕ) (w : Walking v big maxTags page first left p at rest) where
+    pub next_refused : {r : Refused} → PlaceIs v big maxTags at rest (Err r) → PageIs v big maxTags page first left (Err r)
+    next_refused q = rw (w.same, step v big maxTags p at rest, ← q) refl
 
-  module _ (i : ℕ) (found : Directory) (w : Walking v big maxTags page first left i found) where
-    onward : i < page → page_of v big maxTags page first left ≡ page_of v big maxTags (page - (i + 1)) found.next found.left
-    onward l = let z : page - i ≡ suc (page - (i + 1)) = omega arith in w.same ∙ ap (λ (k : ℕ). ahead v big maxTags k found) z
+    pub next_found : {d : Directory} → (p ≡ 0 → ⊥) → PlaceIs v big maxTags at rest (Ok d) → Walking v big maxTags page first left (p - 1) d.next d.left
+    next_found some q =
+        let z : p ≡ suc (p - 1) = omega arith in
+        record { same = w.same ∙ ap (λ (k : ℕ). page_of v big maxTags k at rest) z ∙ rw (step v big maxTags (suc (p - 1)) at rest, ← q) refl }
 
-    pub next_refused : {r : Refused} → i < page → PlaceIs v big maxTags found.next found.left (Err r) → PageIs v big maxTags page first left (Err r)
-    next_refused l q = rw (onward l, step v big maxTags (page - (i + 1)) found.next found.left, ← q) refl
-
-    pub next_found : {d : Directory} → i < page → PlaceIs v big maxTags found.next found.left (Ok d) → Walking v big maxTags page first left (i + 1) d
-    next_found l q = record { same = rw (onward l, step v big maxTags (page - (i + 1)) found.next found.left, ← q) refl }
-
-    pub page_found : i ≡ page → PageIs v big maxTags page first left (Ok found)
-    page_found z = let n : page - i ≡ 0 = omega arith in sym (w.same ∙ ap (λ (k : ℕ). ahead v big maxTags k found) n)
+    pub page_found : {d : Directory} → p ≡ 0 → PlaceIs v big maxTags at rest (Ok d) → PageIs v big maxTags page first left (Ok d)
+    page_found z q = rw (w.same ∙ ap (λ (k : ℕ). page_of v big maxTags k at rest) z, step v big maxTags 0 at rest, ← q) refl
 
 pub ruleset places = (nowhere, somewhere)
 
-pub ruleset walks = (first_refused, first_found, next_refused, next_found, page_found)
+pub ruleset walks = (none_walked, next_refused, next_found, page_found)

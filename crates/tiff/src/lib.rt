@@ -38,9 +38,17 @@ pub fn find_page(
 ) -> Result<Directory, Refused>
     ensures { PageIs (seen file.now map.now) big max_tags page first left result }
 {
-    let mut found = read_at(file, map, big, max_tags, first, left)?;
-    for _ in 0..page {
-        found = read_at(file, map, big, max_tags, found.next, found.left)?;
+    let mut at = first;
+    let mut rest = left;
+    let mut ahead = page;
+    // By hand, so that a directory is read in one place: with a second one after a `for`, each call has a frame more on the stack.
+    loop {
+        let found = read_at(file, map, big, max_tags, at, rest)?;
+        if ahead == 0 {
+            return Ok(found);
+        }
+        at = found.next;
+        rest = found.left;
+        ahead -= 1;
     }
-    Ok(found)
 }
