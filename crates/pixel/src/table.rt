@@ -25,7 +25,7 @@ const UV: [u16; 256] = [
 ];
 
 // A table of uv. To be asked for once a segment and lent to the loop over its pixels: what reads the constant itself may copy all of it at each call.
-#[derive(Drop)]
+#[derive(Clone, Copy)]
 pub struct Table {
     pub entries: [u16; 256],
     pub ghost holds: { HoldsUv entries },

@@ -34,7 +34,7 @@ pub fn light_at(picture: &Picture, k: usize) -> usize
     ensures { result ≡ light_at picture.now.size picture.now.bytes.now k }
 {
     let low = picture.size * k;
-    usize::from(u16::from_le_bytes([picture.bytes[low], picture.bytes[low + 1]]))
+    records::wide(picture.bytes[low]) + 256 * records::wide(picture.bytes[low + 1])
 }
 
 // A grey value for each pixel, as many as are lent.
