@@ -5,6 +5,7 @@
 use buffers::filled;
 use report::arguments::Target;
 use report::complain::{Complained, Complaints};
+use report::piecewise::Piecewise;
 use report::{arguments, load};
 use std::io;
 use std::rt::{Env, Files};
@@ -30,11 +31,11 @@ const BLOCKS: usize = 4096;
 // The program's own name, TRACE and OUT.
 const MOST_ARGUMENTS: usize = 3;
 
-fn tell(rt: &impl Print, name: &[u8], replayed: Replayed) -> io::Result<()> {
-    rt.write_all(name)?;
-    println!(rt)?;
-    lines::put_messages(rt, replayed.progress)?;
-    lines::put_end(rt, replayed)
+fn tell(out: &Piecewise<impl Print>, name: &[u8], replayed: Replayed) {
+    out.bytes(name);
+    out.print("\n");
+    lines::put_messages(out, replayed.progress);
+    lines::put_end(out, replayed);
 }
 
 // The picture as far as it came. Without a start there is none. What standard output does not take is lost.
@@ -47,15 +48,16 @@ fn show(
     map: &[u8],
 ) -> Result<(), Complained> {
     let receiver = replayed.progress.receiver;
+    let out = Piecewise(rt);
     if !receiver.started {
-        let _ = println!(rt; "  picture   none, as no start was accepted");
-        let _ = report::lines::put_unwritten(rt, target);
+        out.print("  picture   none, as no start was accepted\n");
+        report::lines::put_unwritten(&out, target);
         return Ok(());
     }
     // The buffers hold all of it, else its start was refused.
     let bytes = receiver.length.min(file.len());
     let blocks = seen::blocks_in(bytes).min(map.len());
-    let _ = println!(rt; "  picture   {bytes} bytes in {blocks} blocks");
+    print!(out; "  picture   {bytes} bytes in {blocks} blocks\n");
     report::show(rt, complaints, target, &file[..bytes], &map[..blocks])
 }
 
@@ -79,11 +81,11 @@ fn run(
     let mut file = filled::<{ report::MOST }>(0);
     let mut map = filled::<BLOCKS>(0);
     let replayed = replay_file(rt, name, &mut file, &mut map).map_err(|error| complaints.failed(
-        "cannot read the trace",
+        "cannot read the trace '",
         name,
         &error,
     ))?;
-    let _ = tell(rt, name, replayed);
+    tell(&Piecewise(rt), name, replayed);
     show(rt, complaints, target, replayed, &file, &map)
 }
 

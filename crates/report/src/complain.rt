@@ -1,4 +1,5 @@
 // What went wrong, one line each on standard error, which begins with the program's name.
+use crate::piecewise::Piecewise;
 use std::fmt::Display;
 use std::io::Write;
 use std::{fmt, io};
@@ -10,7 +11,7 @@ const WORDS: usize = 128;
 #[derive(Clone, Copy, Debug, PartialEq, Eq)]
 pub struct Complained;
 
-// Where a program tells what went wrong.
+// Where a program tells what went wrong, piece by piece.
 #[derive(Drop)]
 pub struct Complaints<'a, E> {
     pub errors: E,
@@ -35,46 +36,51 @@ impl Display for Reason<'_> {
     }
 }
 
-// What standard error does not take is lost, as there is no other place to say so.
+// What is given is told as it is, and ends its line.
 impl<E: Print> Complaints<'_, E> {
-    // How the program is used, in lines that do not begin with its name.
-    pub fn usage(&self, lines: &str) -> Complained {
-        let _ = self.errors.print(lines);
-        Complained
-    }
-
-    // A line without the name of a file.
+    // A line without the name of a file, or some lines.
     pub fn line<D: Display + Drop>(&self, words: D) -> Complained {
-        let program = self.program;
-        let _ = println!(self.errors; "{program}: {words}");
+        Piecewise(&self.errors).print(words);
         Complained
     }
 
     // A line with the name of a file, which need not be text, and what stands before and after it.
-    pub fn about<D: Display + Drop>(&self, before: &str, name: &[u8], after: D) -> Complained {
-        let program = self.program;
-        let _ = print!(self.errors; "{program}: {before} '");
-        let _ = self.errors.write_all(name);
-        let _ = println!(self.errors; "'{after}");
+    pub fn about<B: Display + Drop, A: Display + Drop>(
+        &self,
+        before: B,
+        name: &[u8],
+        after: A,
+    ) -> Complained {
+        let out = Piecewise(&self.errors);
+        out.print(before);
+        out.bytes(name);
+        out.print(after);
         Complained
     }
 
+    // The same, after the program's name.
+    pub fn own_about<A: Display + Drop>(&self, before: &str, name: &[u8], after: A) -> Complained {
+        let program = self.program;
+        self.about(format_args!("{program}: {before}"), name, after)
+    }
+
     pub fn long_name(&self, i: usize) -> Complained {
-        self.line(format_args!("argument {i} is longer than the name of a file can be"))
+        let (program, before) = (self.program, "argument ");
+        self.line(format_args!("{program}: {before}{i} is longer than the name of a file can be\n"))
     }
 
     // Nothing is read where it is not clear what is to be written.
     pub fn ending(&self, name: &[u8]) -> Complained {
-        self.about(
-            "cannot tell what to write:",
+        self.own_about(
+            "cannot tell what to write: '",
             name,
-            " ends in neither .png nor .pgm",
+            "' ends in neither .png nor .pgm\n",
         )
     }
 
     // A call on a file failed, and the system knows why.
     pub fn failed(&self, what: &str, name: &[u8], error: &io::Error) -> Complained {
         let reason = Reason(error);
-        self.about(what, name, format_args!(": {reason}"))
+        self.own_about(what, name, format_args!("': {reason}\n"))
     }
 }

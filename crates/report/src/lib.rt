@@ -11,7 +11,7 @@ use checks::Refused;
 use complain::{Complained, Complaints};
 use header::Limits;
 use patchy::{Reading, Sizes};
-use std::io;
+use piecewise::Piecewise;
 use std::rt::Files;
 use summary::grey::Picture;
 
@@ -35,6 +35,9 @@ mod refusal;
 
 // A file that is written.
 mod save;
+
+// Text and bytes, each piece tried.
+pub mod piecewise;
 
 // The most bytes of a picture's file, of the picture and of scratch.
 pub const MOST: usize = 2097152;
@@ -77,31 +80,31 @@ fn picture_of(sizes: Sizes, bytes: &[u8]) -> Picture<'_>
 
 // The blocks, the refusal and the charge. There is nothing to write then.
 fn report_refusal(
-    rt: &impl Print,
+    out: &Piecewise<impl Print>,
     target: Option<Target>,
     map: &[u8],
     refused: Refused,
-) -> io::Result<()> {
-    lines::put_blocks(rt, map)?;
-    refusal::put(rt, refused.refusal, limits())?;
-    lines::put_charge(rt, refused.left)?;
-    lines::put_unwritten(rt, target)
+) {
+    lines::put_blocks(out, map);
+    refusal::put(out, refused.refusal, limits());
+    lines::put_charge(out, refused.left);
+    lines::put_unwritten(out, target);
 }
 
 // The sizes, the blocks, the quality of each segment, what to mind there, and the charge.
 fn report_picture(
-    rt: &impl Print,
+    out: &Piecewise<impl Print>,
     map: &[u8],
     sizes: Sizes,
     quality: &[u8],
     left: usize,
-) -> io::Result<()> {
+) {
     let n = sizes.segments.min(quality.len());
-    lines::put_sizes(rt, sizes)?;
-    lines::put_blocks(rt, map)?;
-    lines::put_quality(rt, &quality[..n])?;
-    lines::put_caution(rt, sizes)?;
-    lines::put_charge(rt, left)
+    lines::put_sizes(out, sizes);
+    lines::put_blocks(out, map);
+    lines::put_quality(out, &quality[..n]);
+    lines::put_caution(out, sizes);
+    lines::put_charge(out, left);
 }
 
 // The bytes of the file, in the place of the picture or in scratch; none where there is no room for them.
@@ -136,17 +139,17 @@ fn write_picture(
     let kind = target.kind;
     let file = file_of(kind, sizes, quality, picture, scratch);
     if file.is_empty() {
-        return Err(complaints.about(
-            "cannot write",
+        return Err(complaints.own_about(
+            "cannot write '",
             target.name,
-            format_args!(": there is no room here for so large a {kind} file"),
+            format_args!("': there is no room here for so large a {kind} file\n"),
         ));
     }
     save::save(rt, complaints, target, sizes, file)
 }
 
 // Reads the picture, reports what came of it, and writes it where that is asked for. What standard output does not take of the report
-// is lost.
+// is lost, and the rest of it is still tried.
 pub fn show(
     rt: &(impl Print + Files),
     complaints: &Complaints<impl Print>,
@@ -168,11 +171,11 @@ pub fn show(
         &mut quality,
     ) {
         Err(refused) => {
-            let _ = report_refusal(rt, target, map, refused);
+            report_refusal(&Piecewise(rt), target, map, refused);
             Ok(())
         }
         Ok(Reading { sizes, left }) => {
-            let _ = report_picture(rt, map, sizes, &quality, left);
+            report_picture(&Piecewise(rt), map, sizes, &quality, left);
             match target {
                 Some(target) => write_picture(
                     rt,

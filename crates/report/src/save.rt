@@ -2,6 +2,7 @@
 use crate::arguments::Target;
 use crate::complain::{Complained, Complaints};
 use crate::load::path_of;
+use crate::piecewise::Piecewise;
 use patchy::Sizes;
 use records::crc::crc32;
 use std::fs::File;
@@ -20,17 +21,24 @@ fn write_file(
     file: &[u8],
 ) -> Result<(), Complained> {
     create(rt, name)
-        .map_err(|error| complaints.failed("cannot write", name, &error))?
+        .map_err(|error| complaints.failed("cannot write '", name, &error))?
         .write_all(file)
-        .map_err(|error| complaints.failed("cannot write the whole of", name, &error))
+        .map_err(|error| complaints.failed("cannot write the whole of '", name, &error))
 }
 
-fn tell(rt: &impl Print, target: Target, sizes: Sizes, file: &[u8]) -> io::Result<()> {
+fn tell(out: &Piecewise<impl Print>, target: Target, sizes: Sizes, file: &[u8]) {
     let kind = target.kind;
-    print!(rt; "  written   ")?;
-    rt.write_all(target.name)?;
-    print!(rt; ": {kind}, {} x {}", sizes.width, sizes.height)?;
-    println!(rt; ", {} bytes, CRC-32 {:08x}", file.len(), crc32(file))
+    out.print("  written   ");
+    out.bytes(target.name);
+    out.at_once(format_args!(": {kind}, "));
+    print!(out;
+        "{} x {}, {} bytes, CRC-32 ",
+        sizes.width,
+        sizes.height,
+        file.len()
+    );
+    out.at_once(format_args!("{:08x}", crc32(file)));
+    out.print("\n");
 }
 
 // A file that cannot be written is complained of.
@@ -42,6 +50,6 @@ pub fn save(
     file: &[u8],
 ) -> Result<(), Complained> {
     write_file(rt, complaints, target.name, file)?;
-    let _ = tell(rt, target, sizes, file);
+    tell(&Piecewise(rt), target, sizes, file);
     Ok(())
 }

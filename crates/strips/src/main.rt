@@ -7,6 +7,7 @@ ghost use Rattle.std.specs.Prelude.{◌≤◌, IfOk, length};
 use buffers::filled;
 use report::arguments::Target;
 use report::complain::{Complained, Complaints};
+use report::piecewise::Piecewise;
 use report::{arguments, load};
 use std::rt::{Env, Files};
 
@@ -39,7 +40,7 @@ fn map_of<'a>(
     let Some(name) = name else {
         return Ok(&buffer[..blocks.min(most)]);
     };
-    let map = load::load(rt, complaints, "cannot read the map", name, buffer)?;
+    let map = load::load(rt, complaints, "cannot read the map '", name, buffer)?;
     if map.len() == blocks {
         Ok(map)
     } else {
@@ -56,7 +57,7 @@ fn run(
     target: Option<Target>,
 ) -> Result<(), Complained> {
     let mut file = filled::<FILE>(0);
-    let picture = load::load(rt, complaints, "cannot read the picture", name, &mut file)?;
+    let picture = load::load(rt, complaints, "cannot read the picture '", name, &mut file)?;
     if report::MOST < picture.len() {
         return Err(complain::too_large(complaints, name, report::MOST));
     }
@@ -64,8 +65,9 @@ fn run(
     let mut came = filled::<MAP>(1);
     let blocks = seen::blocks_in(picture.len());
     let map = map_of(rt, complaints, map_name, blocks, &mut came)?;
-    let _ = rt.write_all(name);
-    let _ = println!(rt);
+    let out = Piecewise(rt);
+    out.bytes(name);
+    out.print("\n");
     report::show(rt, complaints, target, picture, map)
 }
 
