@@ -2,7 +2,7 @@
 use Prim.Native.Nat.{ℕ, ◌+◌, ◌-◌, ◌*◌, ◌<◌, ◌≤◌}
 use mathlib.Core.Path.{◌≡◌, sym, ap, ◌∙◌}
 use mathlib.Core.List.{List}
-use mathlib.Core.Bool.{Bool, true, false}
+use mathlib.Core.Bool.{Bool, false}
 use native.Mathlib.Omega.{arith}
 use lib.ListN.{length}
 use borrow.Rule.Slice.PartMut.{mid_of, put_mid}
@@ -44,10 +44,7 @@ one_row little w h ch reset raw =
     let all : 1 * (w * h * ch) ≡ h * (w * ch) = omega (arith, all_columns w h ch) in
     rows_plain little (w * h) ch reset raw 1 ∙ ap (λ (n : ℕ). plain_row little n raw) all ∙ sym (rows_plain little w ch reset raw h)
 
-module _ (little predict : Bool) (w h ch reset : ℕ) (raw old out : List ℕ) where
-  pub summed_picture : predict ≡ true → out ≡ overlay (samples little true w h ch reset raw) old → out ≡ overlay (samples little predict w h ch reset raw) old
-  summed_picture t e = rw t e
-
-  pub plain_picture : predict ≡ false → out ≡ overlay (samples little false (w * h) 1 ch reset raw) old
-      → out ≡ overlay (samples little predict w h ch reset raw) old
-  plain_picture t e = rw t (e ∙ ap (λ (new : List ℕ). overlay new old) (one_row little w h ch reset raw))
+pub plain_picture : (little predict : Bool) (w h ch reset : ℕ) (raw old out : List ℕ) → predict ≡ false
+    → out ≡ overlay (samples little false (w * h) 1 ch reset raw) old
+    → out ≡ overlay (samples little predict w h ch reset raw) old
+plain_picture little predict w h ch reset raw old out t e = rw t (e ∙ ap (λ (new : List ℕ). overlay new old) (one_row little w h ch reset raw))

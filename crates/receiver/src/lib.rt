@@ -36,7 +36,6 @@ pub fn idle() -> Receiver
 }
 
 // Whether buffers of these lengths suffice for a picture of this size.
-
 fn suffices(size: usize, file: usize, map: usize) -> bool
     ensures { result ≡ suffices_for size file map }
 {

@@ -1,4 +1,3 @@
-use Rattle.std.proofs.Common.{◌≤◌}
 use Rattle.fp_rows.proofs.Summing.{Summing}
 use Rattle.fp_rows.proofs.sum_row.Given as goal
 

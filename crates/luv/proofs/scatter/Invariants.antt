@@ -1,5 +1,3 @@
-use Prim.Native.Nat.{◌+◌, ◌*◌, ◌%◌, ◌^◌}
-use mathlib.Core.Path.{◌≡◌}
 use Rattle.luv.proofs.Scattering.{Scattering}
 use Rattle.luv.proofs.scatter.Given as goal
 
