@@ -44,12 +44,12 @@ pub fn put_picture(out: &mut impl Write, picture: &[u8]) -> io::Result<()> {
     let (front, after) = picture.split_at(to);
     let (before, strip) = front.split_at(FROM.min(to));
     let blank = if strip.iter().all(|&byte| byte == 0) {
-        "each byte zero"
+        ", each byte zero\n"
     } else {
-        "not blank"
+        ", not blank\n"
     };
     write!(out, "  picture {:08x}", crc32(picture))?;
     write!(out, ", strips 0 to 30 {:08x}", crc32(before))?;
     write!(out, ", strips 32 to 59 {:08x}", crc32(after))?;
-    writeln!(out, ", strip 31 {:08x}, {blank}", crc32(strip))
+    write!(out, ", strip 31 {:08x}{blank}", crc32(strip))
 }

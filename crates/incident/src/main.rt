@@ -74,7 +74,7 @@ fn show(
         max_tags: 20,
         max_segments: STRIPS,
     };
-    writeln!(out, "{what}")?;
+    out.write_all(what.as_bytes())?;
     let reading = patchy::read(
         file,
         map,
@@ -95,7 +95,7 @@ fn show_patchy(out: &mut impl Write, what: &str, previous: &[u8], file: &[u8]) -
     let mut picture = filled::<PICTURE>(0);
     show(
         out,
-        "the previous picture, whole",
+        "the previous picture, whole\n",
         previous,
         b"",
         &mut picture,
@@ -107,7 +107,13 @@ fn show_patchy(out: &mut impl Write, what: &str, previous: &[u8], file: &[u8]) -
 
 fn show_whole(out: &mut impl Write, file: &[u8]) -> io::Result<()> {
     let mut picture = filled::<PICTURE>(0);
-    show(out, "the camera's picture, whole", file, b"", &mut picture)
+    show(
+        out,
+        "the camera's picture, whole\n",
+        file,
+        b"",
+        &mut picture,
+    )
 }
 
 // Both files: the camera's whole, without a block that has the previous file's bytes, and without the same that has others.
@@ -117,14 +123,14 @@ fn run(out: &mut impl Write, previous: &[u8], file: &mut [u8]) -> io::Result<()>
     leave_stale(previous, file);
     show_patchy(
         out,
-        "the camera's picture, block 44 lost, the previous file's bytes in its place",
+        "the camera's picture, block 44 lost, the previous file's bytes in its place\n",
         previous,
         file,
     )?;
     leave_stale(&others, file);
     show_patchy(
         out,
-        "the camera's picture, block 44 lost, other bytes in its place",
+        "the camera's picture, block 44 lost, other bytes in its place\n",
         previous,
         file,
     )

@@ -13,11 +13,11 @@ use std::io::Write;
 const ROOM: usize = 4096;
 
 fn put_format(out: &mut impl Write, f: Format) -> io::Result<()> {
-    let order = if f.big { "big" } else { "little" };
+    let order = if f.big { ", big" } else { ", little" };
     line::put_shape(out, f)?;
     write!(
         out,
-        ", {order}, offsets {}, counts {}, entries {}",
+        "{order}, offsets {}, counts {}, entries {}",
         f.offsets, f.counts, f.entries
     )
 }

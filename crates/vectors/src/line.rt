@@ -6,8 +6,10 @@ use records::crc::crc32;
 use std::io;
 use std::io::Write;
 
-pub fn put_checksum(out: &mut impl Write, name: &str, buffer: &[u8]) -> io::Result<()> {
-    write!(out, ", {name} {:08x}", crc32(buffer))
+// A text and its checksum. Here and below a text that is chosen has the comma before it, so that both are one piece, which a write takes whole or
+// not at all where standard output is a pipe that does not wait.
+pub fn put_checksum(out: &mut impl Write, before: &str, buffer: &[u8]) -> io::Result<()> {
+    write!(out, "{before}{:08x}", crc32(buffer))
 }
 
 fn put_bytes(out: &mut impl Write, bytes: &[u8]) -> io::Result<()> {
@@ -46,8 +48,8 @@ pub fn put_refusal(out: &mut impl Write, refused: Refused) -> io::Result<()> {
 }
 
 pub fn put_shape(out: &mut impl Write, f: Format) -> io::Result<()> {
-    let kind = if f.tiled { "tiles" } else { "strips" };
-    write!(out, " {} x {}, {kind}", f.width, f.height)?;
+    let kind = if f.tiled { ", tiles" } else { ", strips" };
+    write!(out, " {} x {}{kind}", f.width, f.height)?;
     write!(
         out,
         " {} x {}, {} across, {} segments, {} bytes, {} channels",

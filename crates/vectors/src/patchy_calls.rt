@@ -34,7 +34,7 @@ fn put_quality(out: &mut impl Write, quality: &[u8]) -> io::Result<()> {
     for code in quality.iter().take(CODES) {
         write!(out, "{code}")?;
     }
-    line::put_checksum(out, "quality", quality)
+    line::put_checksum(out, ", quality ", quality)
 }
 
 pub fn read(
@@ -57,8 +57,8 @@ pub fn read(
         quality,
     );
     put_reading(out, reading)?;
-    line::put_checksum(out, "output", output)?;
-    line::put_checksum(out, "scratch", scratch)?;
+    line::put_checksum(out, ", output ", output)?;
+    line::put_checksum(out, ", scratch ", scratch)?;
     put_quality(out, quality)
 }
 

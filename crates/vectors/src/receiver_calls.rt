@@ -30,9 +30,13 @@ fn state_of(numbers: Numbers) -> Receiver {
 
 fn put_received(out: &mut impl Write, received: Received) -> io::Result<()> {
     let state = received.receiver;
-    let started = if state.started { "started" } else { "idle" };
+    let started = if state.started {
+        ", started "
+    } else {
+        ", idle "
+    };
     line::put_verdict(out, received.answer)?;
-    write!(out, ", {started} {}", state.length)
+    write!(out, "{started}{}", state.length)
 }
 
 fn put_next(out: &mut impl Write, next: Next) -> io::Result<()> {
@@ -69,7 +73,7 @@ fn run<W: Write, F: FnOnce(&mut W, Given<'_>, &mut [u8], &mut [u8]) -> io::Resul
         bytes: &long[..end],
     };
     call(out, given, file, map)?;
-    line::put_checksum(out, "file", file)?;
+    line::put_checksum(out, ", file ", file)?;
     write!(out, ", map")?;
     line::show(out, map)
 }

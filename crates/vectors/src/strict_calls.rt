@@ -39,8 +39,8 @@ pub fn decode(
         out,
         logluv_tiff::decode(file, limits, handle, units, output, scratch),
     )?;
-    line::put_checksum(out, "output", output)?;
-    line::put_checksum(out, "scratch", scratch)
+    line::put_checksum(out, ", output ", output)?;
+    line::put_checksum(out, ", scratch ", scratch)
 }
 
 // One field of a handle, or one of the limits, is changed, if any: they are counted from 1 in the order in which they stand here, but
