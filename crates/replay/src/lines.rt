@@ -1,7 +1,7 @@
 // What came of a trace, for a person to take in at a glance, in the columns of the picture's report.
 use crate::messages::{Progress, Stop};
 use crate::stream::Replayed;
-use report::lines::put_count;
+use report::pieces::put_count;
 use report::piecewise::Piecewise;
 
 pub fn put_messages(out: &Piecewise<impl Print>, progress: Progress) {

@@ -51,7 +51,7 @@ fn show(
     let out = Piecewise(rt);
     if !receiver.started {
         out.print("  picture   none, as no start was accepted\n");
-        report::lines::put_unwritten(&out, target);
+        report::pieces::put_unwritten(&out, target);
         return Ok(());
     }
     // The buffers hold all of it, else its start was refused.

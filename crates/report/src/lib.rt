@@ -21,7 +21,7 @@ pub mod arguments;
 // What went wrong.
 pub mod complain;
 
-// What came of a reading.
+// What came of a reading, for a caller who must know whether its output took it.
 pub mod lines;
 
 // A file's bytes.
@@ -36,8 +36,15 @@ mod refusal;
 // A file that is written.
 mod save;
 
+// What came of a reading, as the programs put it.
+pub mod pieces;
+
 // Text and bytes, each piece tried.
 pub mod piecewise;
+
+// The lines on an output that takes so many calls and no more.
+#[cfg(test)]
+mod tests;
 
 // The most bytes of a picture's file, of the picture and of scratch.
 pub const MOST: usize = 2097152;
@@ -85,10 +92,10 @@ fn report_refusal(
     map: &[u8],
     refused: Refused,
 ) {
-    lines::put_blocks(out, map);
+    pieces::put_blocks(out, map);
     refusal::put(out, refused.refusal, limits());
-    lines::put_charge(out, refused.left);
-    lines::put_unwritten(out, target);
+    pieces::put_charge(out, refused.left);
+    pieces::put_unwritten(out, target);
 }
 
 // The sizes, the blocks, the quality of each segment, what to mind there, and the charge.
@@ -100,11 +107,11 @@ fn report_picture(
     left: usize,
 ) {
     let n = sizes.segments.min(quality.len());
-    lines::put_sizes(out, sizes);
-    lines::put_blocks(out, map);
-    lines::put_quality(out, &quality[..n]);
-    lines::put_caution(out, sizes);
-    lines::put_charge(out, left);
+    pieces::put_sizes(out, sizes);
+    pieces::put_blocks(out, map);
+    pieces::put_quality(out, &quality[..n]);
+    pieces::put_caution(out, sizes);
+    pieces::put_charge(out, left);
 }
 
 // The bytes of the file, in the place of the picture or in scratch; none where there is no room for them.
