@@ -172,8 +172,13 @@ fn a_count_is_put() -> Result<(), Fail> {
 // Two rows of marks, as one has 60.
 #[test]
 fn quality_is_put() -> Result<(), Fail> {
-    let text =
-        b"  quality   .......... .......... .......... .......... .......... ..........\n       60   234\n       60   good (1, a dot)\n        1   did not come (2)\n        1   outside the file (3)\n        1   packets not accepted (4)\n";
+    let text = b"  quality   .......... .......... .......... .......... .......... ..........
+       60   234
+       60   good (1, a dot)
+        1   did not come (2)
+        1   outside the file (3)
+        1   packets not accepted (4)
+";
     let mut codes = [1; 63];
     codes[60..].copy_from_slice(&[2, 3, 4]);
     watch(text, |out| lines::put_quality(out, &codes))?;
